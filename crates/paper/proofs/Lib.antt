@@ -1,0 +1,4 @@
+-- What document 01 states about its machine, proved on the definitions of specs/.
+pub mod Refusals
+pub mod Modes
+pub mod Labels

@@ -1,0 +1,19 @@
+-- Document 01, the base, as definitions, in its order:
+-- Frames; Replies (with the order of testing); Clock and Mode; Impact; Commands; Streams, Packets and Queue; Housekeeping;
+-- Status; Controller (the state and what each frame does to it); Step; Reader; and the examples marked P.
+pub mod Frames
+pub mod Clock
+pub mod Mode
+pub mod Impact
+pub mod Commands
+pub mod Streams
+pub mod Packets
+pub mod Queue
+pub mod Controller
+pub mod Housekeeping
+pub mod Status
+pub mod Acts
+pub mod Step
+pub mod Reader
+pub mod Runs
+pub mod Examples
