@@ -2,3 +2,5 @@
 pub mod Refusals
 pub mod Modes
 pub mod Labels
+pub mod Kept
+pub mod Edges

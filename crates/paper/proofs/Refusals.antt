@@ -4,17 +4,69 @@ use mathlib.Core.Path.{_≡_, refl, sym, ap, _∙_}
 use mathlib.Core.Bool.{Bool, true, false, cond}
 use mathlib.Core.List.{List, [], _∷_, map}
 use Prim.Native.Nat.{ℕ}
-use lib.Dec.{eqb}
+use lib.Dec.{eqb, ltb}
 use borrow.Author.Tests.{eqb-true, eqb-false, eq-eqb, ne-eqb}
 use Rattle.paper.specs.Frames.{Channel, Frame, broadcast, command, tick, sample, poll, status, analogue, faulty, frameOf}
 use Rattle.paper.specs.Controller.{Controller}
 use Rattle.paper.specs.Acts.{accepted, answer}
-use Rattle.paper.specs.Step.{Lent, holds, reply, tests, isError, lateHeard, erred, refused, Outcome, outcome, replied, step}
+use Rattle.paper.specs.Step.{Lent, holds, wrongShape, notCarried, wrongLength, outOfRange, late, notTaken, noRoom, nothingWaits, first, reply, tests, isError, lateHeard, erred, refused, Outcome, outcome, replied, step}
 
 -- "Tested in the order 10, 8, 1, 2, 3, 4, 5, 6, 7, 9"
 pub order : (l : Lent Controller) (f : Frame) (room : ℕ)
     → map (λ t. t .0) (tests l f room) ≡ 10 ∷ 8 ∷ 1 ∷ 2 ∷ 3 ∷ 4 ∷ 5 ∷ 6 ∷ 7 ∷ 9 ∷ []
 order l f room = refl
+
+-- ---- "the first that applies is given"
+
+-- whoever gets 0 has passed each test
+pub record Passed (c : Controller) (f : Frame) (room : ℕ) : Type 0 where
+  pub output : ltb room 126 ≡ false
+  pub shape : wrongShape f ≡ false
+  pub carries : notCarried f ≡ false
+  pub sized : wrongLength f ≡ false
+  pub ranged : outOfRange f ≡ false
+  pub timely : late f c ≡ false
+  pub moded : notTaken f c ≡ false
+  pub roomy : noRoom f c ≡ false
+  pub waits : nothingWaits f c ≡ false
+
+abbrev Untaken : List (ℕ × Bool) → Type 0
+Untaken [] = Unit {0}
+Untaken (t ∷ ts) = (t .1 ≡ false) × Untaken ts
+
+-- no test has the number 0
+abbrev Numbered : List (ℕ × Bool) → Type 0
+Numbered [] = Unit {0}
+Numbered (t ∷ ts) = (t .0 ≡ 0 → ⊥) × Numbered ts
+
+untaken : (ts : List (ℕ × Bool)) → Numbered ts → first ts ≡ 0 → Untaken ts
+untaken [] h e = tt
+untaken (t ∷ ts) h e = at (t .1) refl e (untaken ts (h .1))
+  where
+    at : (b : Bool) → t .1 ≡ b → cond b (t .0) (first ts) ≡ 0 → (first ts ≡ 0 → Untaken ts) → (t .1 ≡ false) × Untaken ts
+    at true p q rest = absurd (h .0 q)
+    at false p q rest = (p, rest q)
+
+pub passed : (c : Controller) (f : Frame) (room : ℕ) → reply (holds c) f room ≡ 0 → Passed c f room
+unfolding reply
+passed c f room e =
+    let u = untaken (tests (holds c) f room) (nz 10 refl, (nz 8 refl, (nz 1 refl, (nz 2 refl, (nz 3 refl, (nz 4 refl, (nz 5 refl, (nz 6 refl, (nz 7 refl, (nz 9 refl, tt)))))))))) e in
+    record {
+      output = u .1 .0;
+      shape = u .1 .1 .0;
+      carries = u .1 .1 .1 .0;
+      sized = u .1 .1 .1 .1 .0;
+      ranged = u .1 .1 .1 .1 .1 .0;
+      timely = u .1 .1 .1 .1 .1 .1 .0;
+      moded = u .1 .1 .1 .1 .1 .1 .1 .0;
+      roomy = u .1 .1 .1 .1 .1 .1 .1 .1 .0;
+      waits = u .1 .1 .1 .1 .1 .1 .1 .1 .1 .0;
+    }
+  where
+    nz : (n : ℕ) → eqb n 0 ≡ false → n ≡ 0 → ⊥
+    nz n h = eqb-false n 0 h
+
+-- ---- what a call leaves
 
 -- an outcome by whether the reply is 0
 abbrev either : Bool → ℕ → Frame → Controller → Outcome

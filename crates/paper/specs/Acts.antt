@@ -123,12 +123,15 @@ completed c =
     let done : Controller = queued (withImpact c (ended i)) acc-i (impactPacket i) in
     cond (c .standing .locked) done (enter done surface false (secondsOf (i .stamp .time)))
 
+-- a reading that completes nothing
+unfoldable pub watching : Controller → Controller
+watching c = withImpact c (watched (c .impact .collection) (c .impact) (stampNow c acc-i))
+
 unfoldable pub ticks : Controller → ℕ → Controller
 ticks c r =
     let d : Controller = counted c in
     let e : Controller = withImpact d (taken (c .impact) r) in
-    cond (inProximity c)
-    (cond (completes c) (completed e) (withImpact e (watched (c .impact .collection) (e .impact) (stampNow e acc-i)))) d
+    cond (inProximity c) (cond (completes c) (completed e) (watching e)) d
 
 -- ---- sample
 
@@ -141,12 +144,17 @@ abbrev pub closes : Controller → ℕ → Bool
 closes c s = eqb (suc (length (c .opened s .samples))) (perPacket s)
 
 -- "When full, it is .. queued", and no packet of that stream is open
+unfoldable pub closed : Controller → ℕ → Open → Controller
+closed c s o =
+    queued (withStreams c (put (c .opened) s nothingOpen) (c .counts) (c .queue)) s (datastream (o .stamp) (dataOf s (o .samples)))
+
+unfoldable pub extended : Controller → ℕ → Open → Controller
+extended c s o = withStreams c (put (c .opened) s o) (c .counts) (c .queue)
+
 unfoldable pub sampled : Controller → ℕ → List ℕ → Controller
 sampled c s x =
     let o : Open = joinedBy (c .opened s) (stampNow c s) x in
-    cond (closes c s)
-    (queued (withStreams c (put (c .opened) s nothingOpen) (c .counts) (c .queue)) s (datastream (o .stamp) (dataOf s (o .samples))))
-    (withStreams c (put (c .opened) s o) (c .counts) (c .queue))
+    cond (closes c s) (closed c s o) (extended c s o)
 
 -- ---- command
 

@@ -19,7 +19,7 @@ use Rattle.paper.specs.Queue.{numbered, after, put, without}
 use Rattle.paper.specs.Controller.{Controller, start, queued}
 use Rattle.paper.specs.Housekeeping.{housekeepingData, housekeepingPacket}
 use Rattle.paper.specs.Status.{wordA, wordB}
-use Rattle.paper.specs.Acts.{emptied, enter, heard, moved, counted, last, completes, taken, detected, watched, impactPacket, completed, ticks, joinedBy, sampled, noted, cleared, commanded, obeyed, shown, polled, statusWord, performed, polledFrom, shownFrom, accepted, answer}
+use Rattle.paper.specs.Acts.{emptied, enter, heard, moved, counted, last, completes, taken, detected, watched, impactPacket, completed, watching, ticks, joinedBy, closed, extended, sampled, noted, cleared, commanded, obeyed, shown, polled, statusWord, performed, polledFrom, shownFrom, accepted, answer}
 use Rattle.paper.specs.Step.{reply, lateHeard, erred, refused, replied, step}
 use Rattle.paper.specs.Reader.{arrive, wellFormed, packetOf, sound, readerStart, received, understood, readerStep}
 use Rattle.paper.specs.Runs.{Call, call, runs, replies, readings}
@@ -39,17 +39,17 @@ Hold (e ∷ es) = (e .got ≡ e .said) × Hold es
 
 -- ---- frames
 
-abbrev sent : List (List ℕ) → List Call
+abbrev pub sent : List (List ℕ) → List Call
 sent = map (λ f. call f 126)
 
 -- a broadcast on A
-abbrev told : ℕ → ℕ → List ℕ
+abbrev pub told : ℕ → ℕ → List ℕ
 told time altitude = 0x01 ∷ 0x0A ∷ (bytes16 time ++ bytes16 altitude ++ (0 ∷ 0 ∷ []))
 
-abbrev ticking : ℕ → List ℕ
+abbrev pub ticking : ℕ → List ℕ
 ticking r = 0x03 ∷ bytes16 r
 
-abbrev setting : ℕ → List ℕ
+abbrev pub setting : ℕ → List ℕ
 setting mode = 0x02 ∷ 0x0A ∷ 0x00 ∷ 0x32 ∷ 0x00 ∷ 0x01 ∷ bytes16 mode
 
 -- ---- what is looked at
@@ -117,7 +117,7 @@ examples =
 
 -- "The items marked P are one list with one proved claim on the definitions"
 pub examples-hold : Hold examples
-unfolding onChannel frameOf ticked number modeOf nibble target greater next ruled entered signed above outside decoded rowOf takenIn dataOf datastream cut numbered after put without start queued housekeepingData housekeepingPacket wordA wordB emptied enter heard moved counted last completes taken detected watched impactPacket completed ticks joinedBy sampled noted cleared commanded obeyed shown polled statusWord performed polledFrom shownFrom accepted answer reply lateHeard erred refused replied step arrive wellFormed packetOf sound readerStart received understood readerStep runs replies readings modeAfter flags flagsFrom4 tenPieces handedOut withoutThird
+unfolding onChannel frameOf ticked number modeOf nibble target greater next ruled entered signed above outside decoded rowOf takenIn dataOf datastream cut numbered after put without start queued housekeepingData housekeepingPacket wordA wordB emptied enter heard moved counted last completes taken detected watched impactPacket completed watching ticks joinedBy closed extended sampled noted cleared commanded obeyed shown polled statusWord performed polledFrom shownFrom accepted answer reply lateHeard erred refused replied step arrive wellFormed packetOf sound readerStart received understood readerStep runs replies readings modeAfter flags flagsFrom4 tenPieces handedOut withoutThird
 examples-hold =
     (refl, (refl, (refl, (refl, (refl, (refl, (refl, (refl, (refl, (refl, (refl, (refl, (refl, (refl, (refl, tt)))))))))))))))
 
@@ -150,5 +150,5 @@ answers =
     ∷ []
 
 pub session-holds : replies start (sent session) ≡ answers
-unfolding onChannel frameOf ticked number modeOf nibble target greater next ruled entered signed above outside decoded rowOf takenIn dataOf datastream cut numbered after put without start queued housekeepingData housekeepingPacket wordA wordB emptied enter heard moved counted last completes taken detected watched impactPacket completed ticks joinedBy sampled noted cleared commanded obeyed shown polled statusWord performed polledFrom shownFrom accepted answer reply lateHeard erred refused replied step arrive wellFormed packetOf sound readerStart received understood readerStep runs replies readings modeAfter flags flagsFrom4 tenPieces handedOut withoutThird
+unfolding onChannel frameOf ticked number modeOf nibble target greater next ruled entered signed above outside decoded rowOf takenIn dataOf datastream cut numbered after put without start queued housekeepingData housekeepingPacket wordA wordB emptied enter heard moved counted last completes taken detected watched impactPacket completed watching ticks joinedBy closed extended sampled noted cleared commanded obeyed shown polled statusWord performed polledFrom shownFrom accepted answer reply lateHeard erred refused replied step arrive wellFormed packetOf sound readerStart received understood readerStep runs replies readings modeAfter flags flagsFrom4 tenPieces handedOut withoutThird
 session-holds = refl
