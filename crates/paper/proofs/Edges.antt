@@ -3,7 +3,7 @@
 use mathlib.Core.Path.{_≡_, refl}
 use mathlib.Core.Bool.{Bool, true, false}
 use mathlib.Core.List.{List, [], _∷_, _++_, map}
-use Prim.Native.Nat.{ℕ, _*_}
+use Prim.Native.Nat.{ℕ, zero, suc, _*_}
 use lib.ListN.{replicate, take, drop}
 use lib.IntN.{ℤ, pos, negsuc}
 use Rattle.wire.specs.Wire.{bytes16}
@@ -13,7 +13,7 @@ use Rattle.paper.specs.Mode.{number, modeOf, nibble, target, greater, ne
 use Rattle.paper.specs.Impact.{signed, above}
 use Rattle.paper.specs.Commands.{outside, decoded}
 use Rattle.paper.specs.Streams.{rowOf, takenIn}
-use Rattle.paper.specs.Packets.{dataOf, datastream, cut}
+use Rattle.paper.specs.Packets.{joined, dataOf, datastream, cut}
 use Rattle.paper.specs.Queue.{numbered, after, put, without}
 use Rattle.paper.specs.Controller.{Controller, start, queued}
 use Rattle.paper.specs.Housekeeping.{housekeepingData, housekeepingPacket}
@@ -47,6 +47,24 @@ den v = 0x04 ∷ 0x05 ∷ bytes16 v
 -- what a fresh reader hands out of some packets
 unfoldable pub handed : List (List ℕ) → List (List ℕ)
 handed ps = handedOut (readings readerStart (map (λ f. call f 776) ps))
+
+-- n numbers from k on
+abbrev from : ℕ → ℕ → List ℕ
+from k zero = []
+from k (suc n) = k ∷ from (suc k) n
+
+-- a housekeeping packet, asked for on B and polled on A, of a controller that has heard a broadcast and a frame 07
+unfoldable pub housekept : List ℕ
+housekept =
+    joined
+    (map (λ o. o .1)
+    (replies start
+    (sent
+    ((0x01 ∷ 0x0A ∷ 0x09 ∷ 0x60 ∷ 0x8A ∷ 0xBC ∷ 0x12 ∷ 0x34 ∷ [])
+    ∷ (0x07 ∷ from 1 58)
+    ∷ (0x02 ∷ 0x0B ∷ 0x00 ∷ 0x16 ∷ 0x01 ∷ 0x02 ∷ [])
+    ∷ (0x05 ∷ 0x0A ∷ [])
+    ∷ []))))
 
 -- ---- the list
 
@@ -84,11 +102,22 @@ edges =
     -- 8 before all that is said of the frame, and before 9
     ∷ gives (map (λ f. step start f 125 .reply) ([] ∷ (0x05 ∷ 0x0A ∷ []) ∷ [])) (8 ∷ 8 ∷ [])
     ∷ gives (answered ((0x05 ∷ 0x0A ∷ []) ∷ (0x05 ∷ 0x0C ∷ []) ∷ [])) (9 ∷ 1 ∷ [])
+    -- housekeeping, by the manual's offsets: header; 8 sync, time and mode; 14 altitude, spin, phase; 18 last change and last
+    -- mode; 24 counts; 38 errors and last command; 42 stream counts; 66 the bytes of frame 07; 124 sync
+    ∷ gives housekept
+        ((0x0F ∷ 0x94 ∷ 0xC0 ∷ 0x00 ∷ 0x00 ∷ 0x77 ∷ 0x00 ∷ 0x0A ∷ [])
+        ++ (0x88 ∷ 0x88 ∷ 0x09 ∷ 0x60 ∷ 0x00 ∷ 0x02 ∷ 0x8A ∷ 0xBC ∷ 0x12 ∷ 0x34 ∷ [])
+        ++ (0x09 ∷ 0x60 ∷ 0x00 ∷ 0x01 ∷ 0x8A ∷ 0xBC ∷ [])
+        ++ (0 ∷ 1 ∷ 0 ∷ 1 ∷ 0 ∷ 0 ∷ 0 ∷ 0 ∷ 0 ∷ 1 ∷ 0 ∷ 0 ∷ 0 ∷ 0 ∷ [])
+        ++ (0x00 ∷ 0x00 ∷ 0x02 ∷ 0x16 ∷ [])
+        ++ replicate 24 0
+        ++ from 1 58
+        ++ (0x99 ∷ 0x99 ∷ []))
     -- ACC-E pieces 0, 1, 7, 8, 9: after d = 6 the place fits, and nothing is handed out
     ∷ gives (handed (take 2 tenPieces ++ drop 7 tenPieces)) []
     ∷ []
 
 pub edges-hold : Hold edges
-unfolding onChannel frameOf ticked number modeOf nibble target greater next ruled entered signed above outside decoded rowOf takenIn dataOf datastream cut numbered after put without start queued housekeepingData housekeepingPacket wordA wordB emptied enter heard moved counted last completes taken detected watched impactPacket completed watching ticks joinedBy closed extended sampled noted cleared commanded obeyed shown polled statusWord performed polledFrom shownFrom accepted answer reply lateHeard erred refused replied step runs replies modeAfter flags flagsFrom4 modeThen answered storedAltitude handed arrive wellFormed packetOf sound readerStart received understood readerStep readings tenPieces handedOut
+unfolding onChannel frameOf ticked number modeOf nibble target greater next ruled entered signed above outside decoded rowOf takenIn dataOf datastream cut numbered after put without start queued housekeepingData housekeepingPacket wordA wordB emptied enter heard moved counted last completes taken detected watched impactPacket completed watching ticks joinedBy closed extended sampled noted cleared commanded obeyed shown polled statusWord performed polledFrom shownFrom accepted answer reply lateHeard erred refused replied step runs replies modeAfter flags flagsFrom4 modeThen answered storedAltitude handed housekept arrive wellFormed packetOf sound readerStart received understood readerStep readings tenPieces handedOut
 edges-hold =
-    (refl, (refl, (refl, (refl, (refl, (refl, (refl, (refl, (refl, (refl, (refl, (refl, (refl, (refl, (refl, (refl, (refl, (refl, (refl, (refl, (refl, (refl, tt))))))))))))))))))))))
+    (refl, (refl, (refl, (refl, (refl, (refl, (refl, (refl, (refl, (refl, (refl, (refl, (refl, (refl, (refl, (refl, (refl, (refl, (refl, (refl, (refl, (refl, (refl, tt)))))))))))))))))))))))
