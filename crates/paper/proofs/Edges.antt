@@ -105,14 +105,14 @@ edges =
     -- housekeeping, by the manual's offsets: header; 8 sync, time and mode; 14 altitude, spin, phase; 18 last change and last
     -- mode; 24 counts; 38 errors and last command; 42 stream counts; 66 the bytes of frame 07; 124 sync
     ∷ gives housekept
-        ((0x0F ∷ 0x94 ∷ 0xC0 ∷ 0x00 ∷ 0x00 ∷ 0x77 ∷ 0x00 ∷ 0x0A ∷ [])
-        ++ (0x88 ∷ 0x88 ∷ 0x09 ∷ 0x60 ∷ 0x00 ∷ 0x02 ∷ 0x8A ∷ 0xBC ∷ 0x12 ∷ 0x34 ∷ [])
-        ++ (0x09 ∷ 0x60 ∷ 0x00 ∷ 0x01 ∷ 0x8A ∷ 0xBC ∷ [])
-        ++ (0 ∷ 1 ∷ 0 ∷ 1 ∷ 0 ∷ 0 ∷ 0 ∷ 0 ∷ 0 ∷ 1 ∷ 0 ∷ 0 ∷ 0 ∷ 0 ∷ [])
-        ++ (0x00 ∷ 0x00 ∷ 0x02 ∷ 0x16 ∷ [])
-        ++ replicate 24 0
-        ++ from 1 58
-        ++ (0x99 ∷ 0x99 ∷ []))
+    ((0x0F ∷ 0x94 ∷ 0xC0 ∷ 0x00 ∷ 0x00 ∷ 0x77 ∷ 0x00 ∷ 0x0A ∷ [])
+    ++ (0x88 ∷ 0x88 ∷ 0x09 ∷ 0x60 ∷ 0x00 ∷ 0x02 ∷ 0x8A ∷ 0xBC ∷ 0x12 ∷ 0x34 ∷ [])
+    ++ (0x09 ∷ 0x60 ∷ 0x00 ∷ 0x01 ∷ 0x8A ∷ 0xBC ∷ [])
+    ++ (0 ∷ 1 ∷ 0 ∷ 1 ∷ 0 ∷ 0 ∷ 0 ∷ 0 ∷ 0 ∷ 1 ∷ 0 ∷ 0 ∷ 0 ∷ 0 ∷ [])
+    ++ (0x00 ∷ 0x00 ∷ 0x02 ∷ 0x16 ∷ [])
+    ++ replicate 24 0
+    ++ from 1 58
+    ++ (0x99 ∷ 0x99 ∷ []))
     -- ACC-E pieces 0, 1, 7, 8, 9: after d = 6 the place fits, and nothing is handed out
     ∷ gives (handed (take 2 tenPieces ++ drop 7 tenPieces)) []
     ∷ []
