@@ -1,0 +1,2 @@
+-- What the enums of this crate mean.
+pub mod Meaning

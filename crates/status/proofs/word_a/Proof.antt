@@ -1,0 +1,107 @@
+-- `status::word_a` meets its contract: the chain of bits, from the highest down to the empty word.
+-- Assumes nothing.
+use Rattle.paper.specs.Status.{wordA}
+use borrow.Author.Needs.{needs}
+use Rattle.status.proofs.word_a.Statement.{statement}
+use Rattle.status.proofs.word_a.Tie as tie
+
+empty-requires : tie.Need-empty-requires
+empty-requires c κs = search needs
+
+bit-of-requires : tie.Need-bit-of-requires
+bit-of-requires c κs = search needs
+
+volts12-ok-requires : tie.Need-volts12-ok-requires
+volts12-ok-requires c κs = search needs
+
+bit-of-requires-2 : tie.Need-bit-of-requires-2
+bit-of-requires-2 c κs = search needs
+
+mode-bit-0-requires : tie.Need-mode-bit-0-requires
+mode-bit-0-requires c κs = search needs
+
+bit-of-requires-3 : tie.Need-bit-of-requires-3
+bit-of-requires-3 c κs = search needs
+
+mode-bit-1-requires : tie.Need-mode-bit-1-requires
+mode-bit-1-requires c κs = search needs
+
+bit-of-requires-4 : tie.Need-bit-of-requires-4
+bit-of-requires-4 c κs = search needs
+
+mode-bit-2-requires : tie.Need-mode-bit-2-requires
+mode-bit-2-requires c κs = search needs
+
+bit-of-requires-5 : tie.Need-bit-of-requires-5
+bit-of-requires-5 c κs = search needs
+
+command-bit-requires : tie.Need-command-bit-requires
+command-bit-requires c κs = search needs
+
+bit-of-requires-6 : tie.Need-bit-of-requires-6
+bit-of-requires-6 c κs = search needs
+
+all-ok-requires : tie.Need-all-ok-requires
+all-ok-requires c κs = search needs
+
+bit-of-requires-7 : tie.Need-bit-of-requires-7
+bit-of-requires-7 c κs = search needs
+
+watchdog-ok-requires : tie.Need-watchdog-ok-requires
+watchdog-ok-requires c κs = search needs
+
+impact-requires : tie.Need-impact-requires
+impact-requires c κs = search needs
+
+returns : tie.Need-returns
+unfolding wordA
+returns c =
+    let at-14 = c .before in
+    let at-13 = at-14 .before .before in
+    let at-12 = at-13 .before .before in
+    let at-11 = at-12 .before .before in
+    let at-10 = at-11 .before .before in
+    let at-9 = at-10 .before .before in
+    let at-8 = at-9 .before .before in
+    λ m e.
+    rw (
+      e,
+      c .impact .ensures .word,
+      at-14 .watchdog-ok .ensures .word,
+      at-14 .before .bit-of7 .ensures,
+      at-13 .all-ok .ensures .word,
+      at-13 .before .bit-of6 .ensures,
+      at-12 .command-bit .ensures .word,
+      at-12 .before .bit-of5 .ensures,
+      at-11 .mode-bit-2 .ensures .word,
+      at-11 .before .bit-of4 .ensures,
+      at-10 .mode-bit-1 .ensures .word,
+      at-10 .before .bit-of3 .ensures,
+      at-9 .mode-bit-0 .ensures .word,
+      at-9 .before .bit-of2 .ensures,
+      at-8 .volts12-ok .ensures .word,
+      at-8 .before .bit-of .ensures,
+      at-8 .before .before .empty .ensures .0,
+    )
+
+pub word-a-spec : {M : Type 1} → statement M
+word-a-spec =
+    tie.close
+    (tie.spec
+    empty-requires
+    bit-of-requires
+    volts12-ok-requires
+    bit-of-requires-2
+    mode-bit-0-requires
+    bit-of-requires-3
+    mode-bit-1-requires
+    bit-of-requires-4
+    mode-bit-2-requires
+    bit-of-requires-5
+    command-bit-requires
+    bit-of-requires-6
+    all-ok-requires
+    bit-of-requires-7
+    watchdog-ok-requires
+    impact-requires
+    returns)
