@@ -83,6 +83,13 @@ fn climbed(mode: u8, t: u16, altitude: u16) -> u8
     if mode <= to { to } else { mode }
 }
 
+// A number of 16 bits, where a sum with it must not wrap.
+fn wide(x: u16) -> u32
+    ensures { λ r. ⌜ (r ≡ x) × (r < 65536) ⌝ }
+{
+    x as u32
+}
+
 // The mode that an accepted broadcast leads an unlocked controller to. Both seconds are kept ones, so that the sums fit.
 pub fn next_mode(
     mode: u8,
@@ -92,7 +99,7 @@ pub fn next_mode(
     altitude: u16,
     collecting: bool,
 ) -> u8
-    requires { ⌜ (mode < 8) × (entered ≤ 16383) × (reference ≤ 16383) ⌝ }
+    requires { ⌜ mode < 8 ⌝ }
     ensures { λ r. ⌜ (r ≡ Mode.number (Mode.next (Mode.modeOf mode) entered reference
         (record { t = t; altitude = altitude; collecting = collecting }))) × (r < 8) ⌝ }
 {
@@ -103,13 +110,13 @@ pub fn next_mode(
         return climbed(mode, t, altitude);
     }
     if mode == 4 {
-        if !collecting & (entered + 1860 <= t) {
+        if !collecting & (wide(entered) + 1860 <= wide(t)) {
             return 5;
         }
         return 4;
     }
     if mode == 5 {
-        if reference + 180 <= t {
+        if wide(reference) + 180 <= wide(t) {
             return 6;
         }
         return 5;

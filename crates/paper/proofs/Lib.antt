@@ -1,6 +1,8 @@
 -- What document 01 states about its machine, proved on the definitions of specs/.
+pub mod Shapes
 pub mod Refusals
 pub mod Modes
 pub mod Labels
 pub mod Kept
+pub mod History
 pub mod Edges

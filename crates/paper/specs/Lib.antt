@@ -16,4 +16,5 @@ pub mod Acts
 pub mod Step
 pub mod Reader
 pub mod Runs
+pub mod History
 pub mod Examples

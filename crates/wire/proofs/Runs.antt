@@ -1,14 +1,17 @@
 -- Laws of a run of bytes that is stored at an offset: what is read of it, and that the rest is as it was.
 -- They are stated once over the offset and the length; those of numbers follow from those of bytes. Assumes nothing.
 use mathlib.Core.Path.{_≡_, sym, ap, _∙_}
-use mathlib.Core.List.{List, _++_, append-nil, append-assoc}
+use mathlib.Core.List.{List, [], _∷_, _++_, append-nil, append-assoc}
 use Prim.{Dec, yes, no}
-use Prim.Native.Nat.{ℕ, _+_, _-_, _≤_, _<_}
+use Prim.Native.Nat.{ℕ, suc, _+_, _-_, _*_, _/_, _%_, _≤_, _<_}
 use native.Mathlib.Decide.{decLt}
 use native.Mathlib.Nat.{add-zero, add-assoc}
+use native.Mathlib.Numerals.{add-one}
 use native.Mathlib.Omega.{arith}
-use lib.ListN.{length, take, drop, getD, length-append, length-drop, take-append-drop, drop-of-length-le, List·getD-append}
+use lib.ListN.{length, take, drop, getD, length-append, length-drop, set, take-append-drop, drop-of-length-le, List·getD-append}
 use lib.Seq.{
+  set-split,
+  drop-cons,
   length-take-le,
   getD-take,
   getD-drop,
@@ -240,3 +243,18 @@ put-put-apart d at v to w h f =
     ∙ ap (λ (n : ℕ). getD (put d to w) n 0) p
     ∙ sym (getD-put-after (put d to w) at v gv i (omega arith)))
     (λ b. getD-put-after (put d at v) to w fw i b ∙ put-agree d (put d to w) at v fv gv i (sym (getD-put-after d to w f i b))))
+
+-- one byte that is stored is a run of one
+pub set-put : (l : List ℕ) (i v : ℕ) → i < length l → set l i v ≡ put l i (v ∷ [])
+set-put l i v h = set-split l i v h ∙ rw (append-assoc, add-one)
+
+-- a part is a first part and the rest of it
+pub part-append : (s : List ℕ) (i n m : ℕ) → part s i (n + m) ≡ part s i n ++ part s (i + n) m
+part-append s i n m = take-add n m (drop i s) ∙ ap (λ (l : List ℕ). take n (drop i s) ++ take m l) (drop-drop n i s)
+
+-- the bytes of the number that two bytes are
+pub bytes16-part : (s : List ℕ) (i : ℕ) → i + 2 ≤ length s → getD s (i + 1) 0 < 256 → bytes16 (be16 s i) ≡ part s i 2
+bytes16-part s i h b =
+    let e : (getD s i 0 * 256 + getD s (i + 1) 0) / 256 ≡ getD s i 0 = omega arith in
+    let f : (getD s i 0 * 256 + getD s (i + 1) 0) % 256 ≡ getD s (i + 1) 0 = omega arith in
+    rw (e, f, drop-cons s i 0 (omega arith), drop-cons s (suc i) 0 (omega arith), add-one)

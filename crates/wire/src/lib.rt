@@ -1,6 +1,7 @@
 // Numbers and runs of bytes at an offset of a slice.
 // Every store is said as `put`: the run is there, and the rest is as it was.
 ghost use mathlib.Core.Path.{_≡_};
+ghost use mathlib.Core.List.{[], _∷_};
 ghost use Prim.Native.Nat.{_+_, _/_, _%_, _<_, _≤_};
 ghost use lib.ListN.{length, replicate};
 ghost use Rattle.wire.specs.Wire.{be16, be24, bytes16, bytes24, part, put};
@@ -83,6 +84,14 @@ pub fn get24(s: &[u8], at: usize) -> u32
     ensures { λ r. ⌜ (r ≡ be24 (now (s .entry)) at) × (r < 16777216) ⌝ }
 {
     word32(s[at]) * 65536 + word32(s[at + 1]) * 256 + word32(s[at + 2])
+}
+
+// Stores one byte.
+pub fn set8(s: &mut [u8], at: usize, v: u8)
+    requires { ⌜ at < length (now s) ⌝ }
+    ensures { λ _. ⌜ now (s .exit) ≡ put (now (s .entry)) at (v ∷ []) ⌝ }
+{
+    s[at] = v;
 }
 
 // s with the two bytes of v at an offset.

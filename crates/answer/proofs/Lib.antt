@@ -1,0 +1,2 @@
+-- A polled packet as bytes.
+pub mod Shown

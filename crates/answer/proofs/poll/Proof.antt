@@ -1,0 +1,55 @@
+-- `answer::poll` meets its contract.
+-- Assumes nothing.
+use mathlib.Core.Path.{_≡_, _∙_}
+use borrow.Author.Tests.{ne-eqb}
+use Rattle.paper.specs.Step.{reply}
+use Rattle.state.specs.View.{view, piecesIn}
+use Rattle.state.specs.Told.{answered}
+use Rattle.state.proofs.Pieces.{length-pieces}
+use Rattle.machine.specs.Polled.{polledOn}
+use borrow.Author.Needs.{needs}
+use Rattle.answer.proofs.poll.Statement.{statement}
+use Rattle.answer.proofs.poll.Tie as tie
+
+slice-read-if1 : tie.Need-slice-read-if1
+slice-read-if1 c = search needs
+
+returns : tie.Need-returns
+unfolding answered reply view piecesIn
+returns c = rw (c .if1 .taken)
+
+show-requires : tie.Need-show-requires
+show-requires c κs = search needs
+
+drop-first-requires : tie.Need-drop-first-requires
+drop-first-requires c κs = search needs
+
+count-at-requires : tie.Need-count-at-requires
+count-at-requires c κs = search needs
+
+raise-requires : tie.Need-raise-requires
+raise-requires c κs = search needs
+
+same-length : tie.Need-same-length
+same-length c = search needs
+
+same-length-2 : tie.Need-same-length-2
+same-length-2 c = search needs
+
+returns-2 : tie.Need-returns-2
+unfolding answered reply view polledOn
+returns-2 c = rw (length-pieces, ne-eqb _ _ (c .before .before .before .before .before .before .before .before .before .before .before .before .before .before .if1 .left), c .before .before .raise .ensures, c .before .before .before .count-at .ensures .0, c .before .before .before .before .before .before .before .drop-first .ensures, c .before .before .before .before .before .before .before .before .before .before .before .show .ensures)
+
+pub poll-spec : {M : Type 1} → statement M
+poll-spec =
+    tie.close
+    (tie.spec
+    slice-read-if1
+    returns
+    show-requires
+    drop-first-requires
+    count-at-requires
+    raise-requires
+    same-length
+    same-length-2
+    returns-2)

@@ -1,0 +1,90 @@
+// Frames 05 and 06, which are answered in the output: a poll by a packet, a status frame by a status word.
+use frames::Side;
+ghost use mathlib.Core.Path.{_≡_};
+ghost use Prim.Native.Nat.{_<_, _≤_};
+ghost use lib.ListN.{length, getD};
+ghost use Rattle.wire.specs.Wire.{put};
+ghost use Rattle.paper.specs.Frames as Frames;
+ghost use Rattle.paper.specs.Acts.{packetId};
+ghost use Rattle.paper.specs.Acts as Acts;
+ghost use Rattle.frames.specs.Meaning.{channel};
+ghost use Rattle.state.specs.Layout.{waitingAt, telemetryAt};
+ghost use Rattle.state.specs.View.{view};
+ghost use Rattle.state.specs.Range.{Fit};
+ghost use Rattle.state.specs.Told.{res, answered};
+ghost use Rattle.machine.specs.Polled.{polledOn};
+
+// Where a channel's telemetry count stands.
+fn count_at(side: Side) -> usize
+    ensures { λ r. ⌜ (r ≡ telemetryAt (channel side)) × (r ≤ 39) ⌝ }
+{
+    match side {
+        Side::A => 37,
+        Side::B => 39,
+    }
+}
+
+// The packet ID of a channel.
+fn packet_id(side: Side) -> u16
+    ensures { λ r. ⌜ r ≡ packetId (channel side) ⌝ }
+{
+    match side {
+        Side::A => 0x0F94,
+        Side::B => 0x0FB4,
+    }
+}
+
+// Shows the first piece that waits.
+fn show(s: &[u8], side: Side, out: &mut [u8])
+    requires { ⌜ (Fit (now s)) × (0 < getD (now s) waitingAt 0) × (126 ≤ length (now out)) ⌝ }
+    ensures { λ _. ⌜ now (out .exit) ≡ put (now (out .entry)) 0 (Acts.answer (view (now (s .entry))) (Frames.poll (channel side))) ⌝ }
+{
+    let id = packet_id(side);
+    let sequence = 0xC000 + wire::get16(s, count_at(side)) % 16384;
+    let front = [
+        wire::hi(id),
+        wire::lo(id),
+        wire::hi(sequence),
+        wire::lo(sequence),
+        0x00,
+        0x77,
+    ];
+    wire::copy_to(out, 0, &front);
+    wire::copy_part(out, 6, s, 2953 + 120 * wire::size(s[45]), 120);
+}
+
+// The reply to a poll.
+pub fn poll(s: &mut [u8], side: Side, out: &mut [u8]) -> u8
+    requires { ⌜ (Fit (now s)) × (126 ≤ length (now out)) ⌝ }
+    ensures { λ r. ⌜ res r (now (out .exit)) (now (s .exit)) ≡ answered (now (s .entry)) (Frames.poll (channel side)) (now (out .entry)) (polledOn (now (s .entry)) (channel side)) ⌝ }
+{
+    if s[46] == 0 {
+        return 9;
+    }
+    show(s, side, out);
+    slots::drop_first(s);
+    entry::raise(s, count_at(side));
+    0
+}
+
+// The status word of a channel.
+fn word(s: &[u8], side: Side, low: u8, flags: u8) -> u16
+    requires { ⌜ Fit (now s) ⌝ }
+    ensures { λ r. ⌜ r ≡ Acts.statusWord (view (now (s .entry))) (channel side) low flags ⌝ }
+{
+    let impact = s[17] == 1;
+    let commands = wire::get16(s, 27);
+    match side {
+        Side::A => status::word_a(low, flags, impact, clock::mode_in(s[8]), commands),
+        Side::B => status::word_b(low, flags, impact, commands),
+    }
+}
+
+// Answers a status frame, which is always accepted.
+pub fn status(s: &[u8], side: Side, f: &[u8], out: &mut [u8])
+    requires { ⌜ (Fit (now s)) × (length (now f) ≡ 4) × (126 ≤ length (now out)) ⌝ }
+    ensures { λ _. ⌜ now (out .exit) ≡ put (now (out .entry)) 0 (Acts.answer (view (now (s .entry))) (Frames.status (channel side) (Frames.byte (now (f .entry)) 2) (Frames.byte (now (f .entry)) 3))) ⌝ }
+{
+    let word = word(s, side, f[2], f[3]);
+    wire::set16(out, 0, word);
+}

@@ -1,0 +1,72 @@
+-- `broadcast::frame` meets its contract.
+-- Assumes nothing.
+use mathlib.Core.Path.{_≡_, sym, _∙_}
+use Prim.Native.Nat.{_/_, _<_, _≤_}
+use borrow.Author.Tests.{lt-ltb, le-ltb}
+use Rattle.wire.specs.Wire.{be16}
+use Rattle.paper.specs.Step.{reply}
+use Rattle.state.specs.View.{view, clockIn}
+use Rattle.state.specs.Told.{handled}
+use Rattle.machine.proofs.Broadcasts.{heard-fit}
+use borrow.Author.Needs.{needs}
+use Rattle.broadcast.proofs.frame.Statement.{statement}
+use Rattle.broadcast.proofs.frame.Tie as tie
+
+get16-requires : tie.Need-get16-requires
+get16-requires c κs = search needs
+
+seconds-requires : tie.Need-seconds-requires
+seconds-requires c κs = search needs
+
+get16-requires-2 : tie.Need-get16-requires-2
+get16-requires-2 c κs = search needs
+
+seconds-requires-2 : tie.Need-seconds-requires-2
+seconds-requires-2 c κs = search needs
+
+count-at-requires : tie.Need-count-at-requires
+count-at-requires c κs = search needs
+
+raise-requires : tie.Need-raise-requires
+raise-requires c κs = search needs
+
+same-length : tie.Need-same-length
+same-length c = search needs
+
+returns : tie.Need-returns
+unfolding handled reply view clockIn
+returns c =
+    let h : be16 (c .before .before .before .before .before .before .before .before .before .before .before .before .before .args .f .now) 2 / 4 < be16 (c .before .before .before .before .before .before .before .before .before .before .before .before .before .args .s .now) 0 / 4 = rw (c .before .before .before .before .before .before .before .before .before .seconds .ensures .0, c .before .before .before .before .before .before .before .before .before .before .get16 .ensures, c .before .before .before .before .before .before .seconds2 .ensures .0, c .before .before .before .before .before .before .before .get162 .ensures) at (c .before .before .before .before .before .if1 .taken) in
+    rw (lt-ltb _ _ h, c .before .before .raise .ensures, c .before .before .before .count-at .ensures .0)
+
+hear-requires : tie.Need-hear-requires
+hear-requires c κs = search needs
+
+move-on-requires : tie.Need-move-on-requires
+move-on-requires c κs = rw (c .before .before .before .hear .ensures) (heard-fit (c .before .before .before .before .before .before .before .before .before .before .before .before .before .args .s .now) (c .before .before .before .before .before .before .before .before .before .before .before .before .before .pre .0) _ _ _ _ _)
+
+same-length-2 : tie.Need-same-length-2
+same-length-2 c = search needs
+
+returns-2 : tie.Need-returns-2
+unfolding handled reply view clockIn
+returns-2 c =
+    let h : be16 (c .before .before .before .before .before .before .before .before .before .before .before .before .before .before .before .before .args .s .now) 0 / 4 ≤ be16 (c .before .before .before .before .before .before .before .before .before .before .before .before .before .before .before .before .args .f .now) 2 / 4 = rw (c .before .before .before .before .before .before .before .before .before .before .before .before .seconds .ensures .0, c .before .before .before .before .before .before .before .before .before .before .before .before .before .get16 .ensures, c .before .before .before .before .before .before .before .before .before .seconds2 .ensures .0, c .before .before .before .before .before .before .before .before .before .before .get162 .ensures) at (c .before .before .before .before .before .before .before .before .if1 .left) in
+    rw (le-ltb _ _ h, c .before .before .move-on .ensures, c .before .before .before .before .before .before .hear .ensures)
+
+pub frame-spec : {M : Type 1} → statement M
+frame-spec =
+    tie.close
+    (tie.spec
+    get16-requires
+    seconds-requires
+    get16-requires-2
+    seconds-requires-2
+    count-at-requires
+    raise-requires
+    same-length
+    returns
+    hear-requires
+    move-on-requires
+    same-length-2
+    returns-2)

@@ -1,0 +1,28 @@
+-- `entry::raise` meets its contract.
+-- Assumes nothing.
+use mathlib.Core.Path.{_≡_, _∙_}
+use Rattle.machine.specs.Entered.{raisedOn}
+use borrow.Author.Needs.{needs}
+use Rattle.entry.proofs.raise.Statement.{statement}
+use Rattle.entry.proofs.raise.Tie as tie
+
+get16-requires : tie.Need-get16-requires
+get16-requires c κs = search needs
+
+wrapping-add-u16-requires : tie.Need-wrapping-add-u16-requires
+wrapping-add-u16-requires c κs = search needs
+
+set16-requires : tie.Need-set16-requires
+set16-requires c κs = search needs
+
+same-length : tie.Need-same-length
+same-length c = search needs
+
+returns : tie.Need-returns
+unfolding raisedOn
+returns c = c .before .before .set16 .ensures ∙ rw (c .before .before .before .wrapping-add-u16 .ensures, c .before .before .before .before .before .get16 .ensures)
+
+pub raise-spec : {M : Type 1} → statement M
+raise-spec =
+    tie.close
+    (tie.spec get16-requires wrapping-add-u16-requires set16-requires same-length returns)

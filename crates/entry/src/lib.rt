@@ -1,0 +1,58 @@
+// Counts that are raised, and entries to a mode.
+ghost use mathlib.Core.Path.{_≡_};
+ghost use mathlib.Core.List.{[], _∷_, _++_};
+ghost use Prim.Native.Nat.{_+_, _%_, _<_, _≤_};
+ghost use lib.ListN.{length, getD};
+ghost use Rattle.wire.specs.Wire.{be16, put};
+ghost use Rattle.state.specs.Layout.{stateBytes, mAt, nibbleAt};
+ghost use Rattle.machine.specs.Entered.{raisedOn, emptiedOn, entryRun, enteredOn};
+
+// Raises a count of 16 bits, which goes from 65535 to 0 on purpose.
+pub fn raise(s: &mut [u8], at: usize)
+    requires { ⌜ at + 1 < length (now s) ⌝ }
+    ensures { λ _. ⌜ now (s .exit) ≡ raisedOn (now (s .entry)) at ⌝ }
+{
+    let count = wire::get16(s, at);
+    wire::set16(s, at, std::num::wrapping_add_u16(count, 1));
+}
+
+// Window and ring are emptied, and the impact flag is cleared.
+fn empty(s: &mut [u8])
+    requires { ⌜ stateBytes ≤ length (now s) ⌝ }
+    ensures { λ _. ⌜ now (s .exit) ≡ emptiedOn (now (s .entry)) ⌝ }
+{
+    wire::set8(s, 17, 0);
+    wire::set8(s, 22, 0);
+    wire::fill(s, 1929, 1024, 0);
+}
+
+// Stores an entry.
+fn note(s: &mut [u8], nibble: u8, reference: u16)
+    requires { ⌜ (stateBytes ≤ length (now s)) × (be16 (now s) mAt ≤ 1023) ⌝ }
+    ensures { λ _. ⌜ now (s .exit) ≡ put (now (s .entry)) nibbleAt (entryRun (now (s .entry)) nibble reference) ⌝ }
+{
+    let time = state::now_in(s);
+    let run = [
+        nibble,
+        wire::top24(time),
+        wire::mid24(time),
+        wire::low24(time),
+        s[8],
+        s[2],
+        s[3],
+        wire::hi(reference),
+        wire::lo(reference),
+    ];
+    wire::copy_to(s, 8, &run);
+}
+
+// Enters a mode: `nibble` is the mode, plus 8 if locked.
+pub fn enter(s: &mut [u8], nibble: u8, reference: u16)
+    requires { ⌜ (stateBytes ≤ length (now s)) × (be16 (now s) mAt ≤ 1023) ⌝ }
+    ensures { λ _. ⌜ now (s .exit) ≡ enteredOn (now (s .entry)) nibble reference ⌝ }
+{
+    note(s, nibble, reference);
+    if nibble % 8 == 4 {
+        empty(s);
+    }
+}

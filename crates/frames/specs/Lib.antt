@@ -1,0 +1,2 @@
+-- What the code's kinds of frame mean.
+pub mod Meaning

@@ -1,0 +1,244 @@
+-- One call on lent bytes that fit is one step of document 01's controller that they hold: the same reply, its bytes at the output's
+-- front, and bytes that hold the controller it leaves, and fit. Then the same of runs, and of runs from a fresh start.
+-- Assumes nothing.
+use mathlib.Core.Path.{_≡_, refl, sym, ap, _∙_, subst}
+use mathlib.Core.Bool.{Bool, true, false, cond, not, _&&_}
+use mathlib.Core.List.{List, [], _∷_}
+use Prim.Native.Nat.{ℕ, _+_, _-_, _≤_, _<_}
+use native.Mathlib.Omega.{arith}
+use borrow.Author.Tests.{eqb-true, eqb-false, ltb-false, not-false, le-leb}
+use lib.Dec.{eqb, leb, ltb}
+use lib.ListN.{length, getD, drop, length-drop}
+use lib.Seq.{getD-drop}
+use Rattle.wire.specs.Wire.{be16, put}
+use Rattle.paper.specs.Frames.{Channel, Frame, broadcast, command, tick, sample, poll, status, analogue, faulty, frameOf}
+use Rattle.paper.specs.Commands.{Request, clear, housekeeping, setMode, Decoded, request, refusal, outside, decoded}
+use Rattle.paper.specs.Streams.{rowOf, width}
+use Rattle.paper.specs.Controller.{Controller, start}
+use Rattle.paper.specs.Acts.{moved, noted, obeyed, performed, accepted, answer}
+use Rattle.paper.specs.Step.{holds, reply, isError, queues, lateHeard, erred, refused, Outcome, outcome, replied, step}
+use Rattle.paper.specs.Runs.{Call, call, runs}
+use Rattle.paper.proofs.Shapes.{Rows, through}
+use Rattle.paper.proofs.Refusals.{Passed, passed}
+use Rattle.state.specs.Layout.{stateBytes, housedAt, waitingAt, broadcastsAt}
+use Rattle.state.specs.View.{view}
+use Rattle.state.specs.Range.{Fit, fit}
+use Rattle.state.specs.Fresh.{startedOn}
+use Rattle.state.specs.Told.{Res, res}
+use Rattle.state.proofs.Ranges.{fit-true, true-fit}
+use Rattle.machine.specs.Heard.{heardOn, movedOn}
+use Rattle.machine.specs.Entered.{raisedOn}
+use Rattle.machine.specs.Obeyed.{notedOn, erredOn, performedOn}
+use Rattle.machine.specs.Called.{actedOn, refusedOn, repliedOn, stepOf}
+use Rattle.machine.proofs.Queue.{queue-length}
+use Rattle.machine.proofs.Counts.{late-view, late-fit, noted-view, noted-fit, erred-view, erred-fit, housed-view, housed-fit}
+use Rattle.machine.proofs.Broadcasts.{heard-view, heard-fit, moved-view, moved-fit}
+use Rattle.machine.proofs.Orders.{obeyed-view}
+use Rattle.machine.proofs.Ticks.{ticked-view}
+use Rattle.machine.proofs.Samples.{Bytes, slots-free, sampled-view}
+use Rattle.machine.proofs.Polls.{polled-view}
+use Rattle.machine.proofs.Fresh.{start-view, start-fit}
+
+-- ---- what a frame's bytes say of its lists
+
+-- a frame 07 has 58 bytes, and a sample's bytes are bytes
+abbrev pub Shaped : Frame → Type 0
+Shaped (broadcast cc time altitude spin phase) = Unit {0}
+Shaped (command cc id sequence parameters) = Unit {0}
+Shaped (tick r) = Unit {0}
+Shaped (sample t x) = Bytes x
+Shaped (poll cc) = Unit {0}
+Shaped (status cc low flags) = Unit {0}
+Shaped (analogue x) = length x ≡ 58
+Shaped faulty = Unit {0}
+
+pub shaped : (f : List ℕ) → Bytes f → Shaped (frameOf f)
+shaped f b =
+    through Shaped f
+    (record {
+      broadcasts = λ cc. tt;
+      commands = λ cc. tt;
+      ticks = tt;
+      samples = λ i. rw (getD-drop 2 f i 0) (b (2 + i));
+      polls = λ cc. tt;
+      statuses = λ cc. tt;
+      analogues = λ e. omega (arith, length-drop 1 f);
+      none = tt;
+    })
+
+-- ---- what a command's request says of its fields
+
+within : (b : Bool) (n : ℕ) (q : Decoded) (v : ℕ) → (q ≡ request (setMode v) → v < 16)
+    → cond b q (refusal n) ≡ request (setMode v) → v < 16
+within true n q v h e = h e
+within false n q v h e = absurd (let z : _≡_ {A = ℕ} 0 1 = cc in omega arith)
+
+either : (b : Bool) (p q : Decoded) (v : ℕ) → (p ≡ request (setMode v) → v < 16) → (q ≡ request (setMode v) → v < 16)
+    → cond b p q ≡ request (setMode v) → v < 16
+either true p q v h k e = h e
+either false p q v h k e = k e
+
+-- "0032 set mode, two bytes, 0 to 15"
+pub mode-small : (id : ℕ) (parameters : List ℕ) (v : ℕ) → decoded id parameters ≡ request (setMode v) → v < 16
+unfolding decoded
+mode-small id parameters v =
+    either (eqb id 0x0013) _ _ v
+    (within (eqb (length parameters) 2) 3 _ v (either (outside (be16 parameters 0)) _ _ v (λ e. absurd (wrong e)) (λ e. absurd (other e))))
+    (either (eqb id 0x0016) _ _ v (within (eqb (length parameters) 0) 3 _ v (λ e. absurd (lone e)))
+    (either (eqb id 0x0032) _ _ v (within (eqb (length parameters) 2) 3 _ v (ranged (ltb 15 (be16 parameters 0)) refl)) (λ e. absurd (wrong e))))
+  where
+    wrong : {n : ℕ} → refusal n ≡ request (setMode v) → ⊥
+    wrong e = let z : _≡_ {A = ℕ} 0 1 = cc in omega arith
+
+    other : {m : ℕ} → request (clear m) ≡ request (setMode v) → ⊥
+    other e = let z : _≡_ {A = ℕ} 0 1 = cc in omega arith
+
+    lone : request housekeeping ≡ request (setMode v) → ⊥
+    lone e = let z : _≡_ {A = ℕ} 0 1 = cc in omega arith
+
+    same : request (setMode (be16 parameters 0)) ≡ request (setMode v) → be16 parameters 0 ≡ v
+    same e = cc
+
+    ranged : (b : Bool) → ltb 15 (be16 parameters 0) ≡ b → cond b (refusal 4) (request (setMode (be16 parameters 0))) ≡ request (setMode v) → v < 16
+    ranged true t e = absurd (wrong e)
+    ranged false t e = omega (arith, ltb-false 15 (be16 parameters 0) t, same e)
+
+-- ---- an accepted frame
+
+-- lent bytes that hold a controller, and fit
+abbrev pub Holds : List ℕ → Controller → Type 0
+Holds s c = (view s ≡ c) × Fit s
+
+module _ (s : List ℕ) (f : Fit s) where
+  both-false : (a b : Bool) → a ≡ true → (a && b) ≡ false → b ≡ false
+  both-false true b t e = e
+  both-false false b t e = absurd (eqb-false 0 1 refl (ap (λ (x : Bool). cond x 1 0) t))
+
+  -- a command's request, where there is room for what it queues
+  performs : (c : Channel) (id sequence : ℕ) (parameters : List ℕ) (d : Decoded) → decoded id parameters ≡ d
+      → (queues d && ltb (48 - length (view s .queue)) 1) ≡ false
+      → Holds (performedOn (notedOn s c id sequence) d) (performed (noted (view s) c id sequence) d)
+  unfolding performedOn performed noted
+  performs c id sequence parameters (refusal n) e room = (noted-view s f c id sequence, noted-fit s f c id sequence)
+  performs c id sequence parameters (request q) e room =
+      let n : List ℕ = notedOn s c id sequence in
+      let seen : view n ≡ noted (view s) c id sequence = noted-view s f c id sequence in
+      let waits : getD n waitingAt 0 ≡ getD s waitingAt 0 =
+      sym (queue-length n) ∙ ap (λ (x : Controller). length (x .queue)) seen ∙ queue-length s in
+      let done =
+      obeyed-view n q (noted-fit s f c id sequence)
+      (λ h. let free = slots-free s 1 (omega arith) (both-false (queues (request q)) _ (ap (λ (r : Request). queues (request r)) h) room) in omega (arith, waits, free))
+      (λ v h. mode-small id parameters v (e ∙ ap request h)) in
+      (done .0 ∙ ap (λ (x : Controller). obeyed x q) seen, done .1)
+
+  pub acted-view : (x : Frame) (room : ℕ) → Shaped x → Passed (view s) x room → Holds (actedOn s x) (accepted (view s) x)
+  unfolding actedOn accepted rowOf
+  acted-view (broadcast c time altitude spin phase) room h p =
+      let heard = heard-fit s f c time altitude spin phase in (
+        moved-view (heardOn s c time altitude spin phase) heard ∙ ap moved (heard-view s f c time altitude spin phase),
+        moved-fit (heardOn s c time altitude spin phase) heard,
+      )
+  acted-view (command c id sequence parameters) room h p = performs c id sequence parameters (decoded id parameters) refl (p .roomy)
+  acted-view (tick r) room h p =
+      ticked-view s r f (omega (arith, ltb-false 4095 r (p .ranged))) (λ e. slots-free s 7 (omega arith) (both-false _ _ e (p .roomy)))
+  acted-view (sample t x) room h p =
+      sampled-view s t x f h (not-false _ (p .carries)) (eqb-true (length x) (width t) (not-false _ (p .sized))) (p .ranged) (p .roomy)
+  acted-view (poll c) room h p =
+      polled-view s c f (omega (arith, queue-length s, eqb-false (length (view s .queue)) 0 (p .waits)))
+  acted-view (status c low flags) room h p = (refl, f)
+  acted-view (analogue x) room h p = (housed-view s f x h, housed-fit s f x h)
+  acted-view faulty room h p = (refl, f)
+
+  -- ---- a refused frame
+
+  pub refused-view : (n : ℕ) (x : Frame) → Holds (refusedOn s n x) (refused n x (view s))
+  unfolding refusedOn refused
+  refused-view n (broadcast c time altitude spin phase) = at (eqb n 5)
+    where
+      at : (b : Bool) → Holds (cond b (raisedOn s (broadcastsAt c)) s) (cond b (lateHeard (view s) c) (view s))
+      at true = (late-view s f c, late-fit s f c)
+      at false = (refl, f)
+  refused-view n (command c id sequence parameters) = at (isError n)
+    where
+      at : (b : Bool) → Holds (cond b (erredOn s c n) s) (cond b (erred (view s) c n) (view s))
+      at true = (erred-view s f c n, erred-fit s f c n)
+      at false = (refl, f)
+  refused-view n (tick r) = (refl, f)
+  refused-view n (sample t x) = (refl, f)
+  refused-view n (poll c) = (refl, f)
+  refused-view n (status c low flags) = (refl, f)
+  refused-view n (analogue x) = (refl, f)
+  refused-view n faulty = (refl, f)
+
+-- ---- one call
+
+-- What a call on bytes came to, and an outcome of document 01, with the output o that was lent: the same reply; the outcome's bytes
+-- at the output's front, the rest as it was; bytes that hold the controller that is left, and fit.
+pub record Agrees (r : Res) (p : Outcome) (o : List ℕ) : Type 0 where
+  pub reply : r .reply ≡ p .reply
+  pub out : r .out ≡ put o 0 (p .out)
+  pub held : view (r .state) ≡ p .next
+  pub fits : Fit (r .state)
+
+-- one call is one step
+pub steps : (s f o : List ℕ) → Fit s → Bytes f → Agrees (stepOf s f o) (step (view s) f (length o)) o
+unfolding stepOf repliedOn step replied
+steps s f o g b = rw (true-fit s g) (at n refl (eqb n 0) refl)
+  where
+    x : Frame
+    x = frameOf f
+
+    n : ℕ
+    n = reply (holds (view s)) x (length o)
+
+    at : (m : ℕ) → n ≡ m → (t : Bool) → eqb m 0 ≡ t
+        → Agrees (cond t (res 0 (put o 0 (answer (view s) x)) (actedOn s x)) (res m o (refusedOn s m x)))
+        (cond t (outcome 0 (answer (view s) x) (accepted (view s) x)) (outcome m [] (refused m x (view s)))) o
+    at m e true t =
+        let done = acted-view s g x (length o) (shaped f b) (passed (view s) x (length o) (e ∙ eqb-true m 0 t)) in
+        record { reply = refl; out = refl; held = done .0; fits = done .1 }
+    at m e false t =
+        let left = refused-view s g m x in
+        record { reply = refl; out = refl; held = left .0; fits = left .1 }
+
+-- ---- runs
+
+-- calls one after the other, each with a frame and the output that is lent with it: the bytes that are left
+unfoldable pub runOf : List ℕ → List (List ℕ × List ℕ) → List ℕ
+runOf s [] = s
+runOf s (x ∷ xs) = runOf (stepOf s (x .0) (x .1) .state) xs
+
+-- the same calls as document 01 sees them
+abbrev pub calls : List (List ℕ × List ℕ) → List Call
+calls [] = []
+calls (x ∷ xs) = call (x .0) (length (x .1)) ∷ calls xs
+
+-- frames are of bytes
+abbrev pub Framed : List (List ℕ × List ℕ) → Type 0
+Framed [] = Unit {0}
+Framed (x ∷ xs) = Bytes (x .0) × Framed xs
+
+pub runs-view : (xs : List (List ℕ × List ℕ)) (s : List ℕ) → Fit s → Framed xs → Holds (runOf s xs) (runs (view s) (calls xs))
+unfolding runOf runs
+runs-view [] s g h = (refl, g)
+runs-view (x ∷ xs) s g h =
+    let a = steps s (x .0) (x .1) g (h .0) in
+    let rest = runs-view xs (stepOf s (x .0) (x .1) .state) (a .fits) (h .1) in
+    (rest .0 ∙ ap (λ (c : Controller). runs c (calls xs)) (a .held), rest .1)
+
+-- "10 never meets a state made by starting and later calls": such bytes hold document 01's controller after the same calls, and
+-- fit; and so a further call replies as the paper's step does.
+module _ (s : List ℕ) (whole : stateBytes ≤ length s) (xs : List (List ℕ × List ℕ)) (h : Framed xs) where
+  pub started-runs : Holds (runOf (startedOn s) xs) (runs start (calls xs))
+  started-runs =
+      let r = runs-view xs (startedOn s) (start-fit s whole) h in
+      (r .0 ∙ ap (λ (c : Controller). runs c (calls xs)) (start-view s whole), r .1)
+
+  pub never-10 : fit (runOf (startedOn s) xs) ≡ true
+  never-10 = true-fit (runOf (startedOn s) xs) (started-runs .1)
+
+  pub started-steps : (f o : List ℕ) → Bytes f
+      → Agrees (stepOf (runOf (startedOn s) xs) f o) (step (runs start (calls xs)) f (length o)) o
+  started-steps f o b =
+      subst (λ (c : Controller). Agrees (stepOf (runOf (startedOn s) xs) f o) (step c f (length o)) o) (started-runs .0)
+      (steps (runOf (startedOn s) xs) f o (started-runs .1) b)

@@ -1,0 +1,35 @@
+-- What raising a count and entering a mode do to the lent bytes.
+-- Assumes nothing.
+use mathlib.Core.Bool.{Bool, cond}
+use mathlib.Core.List.{List, [], _∷_, _++_}
+use Prim.Native.Nat.{ℕ, _+_, _%_}
+use lib.Dec.{eqb}
+use lib.ListN.{getD, replicate}
+use Rattle.wire.specs.Wire.{be16, bytes16, bytes24, put}
+use Rattle.paper.specs.Clock.{now}
+use Rattle.paper.specs.Controller.{raised}
+use Rattle.state.specs.Layout.{altitudeAt, nibbleAt, flagAt, windowAt, ringAt}
+use Rattle.state.specs.View.{clockIn}
+
+-- a count of 16 bits goes up by one
+unfoldable pub raisedOn : List ℕ → ℕ → List ℕ
+raisedOn s at = put s at (bytes16 (raised (be16 s at)))
+
+-- 512 readings of zero
+unfoldable pub noRing : List ℕ
+noRing = replicate 1024 0
+
+-- "empties window and ring and clears the impact flag"
+unfoldable pub emptiedOn : List ℕ → List ℕ
+emptiedOn s = put (put (put s flagAt (0 ∷ [])) windowAt (0 ∷ [])) ringAt noRing
+
+-- the run that an entry stores: the mode with its lock, SSP time, the old mode, the altitude word, the reference second
+abbrev pub entryRun : List ℕ → ℕ → ℕ → List ℕ
+entryRun s nibble reference =
+    (nibble ∷ bytes24 (now (clockIn s)))
+    ++ (getD s nibbleAt 0 ∷ getD s altitudeAt 0 ∷ getD s (altitudeAt + 1) 0 ∷ bytes16 reference)
+
+unfoldable pub enteredOn : List ℕ → ℕ → ℕ → List ℕ
+enteredOn s nibble reference =
+    cond (eqb (nibble % 8) 4) (emptiedOn (put s nibbleAt (entryRun s nibble reference)))
+    (put s nibbleAt (entryRun s nibble reference))

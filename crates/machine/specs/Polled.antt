@@ -1,0 +1,12 @@
+-- What an accepted poll does to the lent bytes.
+-- Assumes nothing.
+use mathlib.Core.List.{List}
+use Prim.Native.Nat.{ℕ}
+use Rattle.paper.specs.Frames.{Channel}
+use Rattle.state.specs.Layout.{telemetryAt}
+use Rattle.machine.specs.Stores.{droppedOn}
+use Rattle.machine.specs.Entered.{raisedOn}
+
+-- the first piece is gone, and the channel's telemetry count is raised
+unfoldable pub polledOn : List ℕ → Channel → List ℕ
+polledOn s cc = raisedOn (droppedOn s) (telemetryAt cc)

@@ -1,0 +1,114 @@
+-- The reply to a command by what it decodes to and what stands in the lent bytes.
+-- Assumes nothing.
+use mathlib.Core.Path.{_≡_, refl, sym, ap, _∙_, subst}
+use mathlib.Core.Bool.{Bool, true, false, cond, _&&_, _||_}
+use mathlib.Core.List.{List}
+use Prim.Native.Nat.{ℕ, _-_}
+use native.Mathlib.Omega.{arith}
+use borrow.Author.Tests.{eqb-true, eqb-false, ne-eqb, ltb-true, ltb-false, lt-ltb, le-ltb}
+use lib.Dec.{eqb, ltb}
+use lib.ListN.{length, getD}
+use Rattle.wire.specs.Wire.{be16}
+use Rattle.paper.specs.Frames.{Channel, command}
+use Rattle.paper.specs.Commands.{Request, clear, housekeeping, setMode, Decoded, request, refusal, outside, decoded}
+use Rattle.paper.specs.Streams.{rowOf}
+use Rattle.paper.specs.Step.{queues, reply}
+use Rattle.state.specs.Layout.{waitingAt}
+use Rattle.state.specs.Told.{told, replyTo, handled}
+use Rattle.paper.specs.Controller.{Controller}
+use Rattle.paper.specs.Acts.{noted}
+use Rattle.state.specs.Range.{Fit}
+use Rattle.machine.specs.Obeyed.{notedOn}
+use Rattle.machine.proofs.Queue.{queue-length}
+use Rattle.machine.proofs.Counts.{noted-view}
+
+-- a refusal is one of 2, 3 and 4
+abbrev Says : Decoded → Type 0
+Says (request q) = Unit {0}
+Says (refusal n) = (eqb n 2 || (eqb n 3 || eqb n 4)) ≡ true
+
+pick : (b : Bool) (x y : Decoded) → Says x → Says y → Says (cond b x y)
+pick true x y p q = p
+pick false x y p q = q
+
+says : (id : ℕ) (parameters : List ℕ) → Says (decoded id parameters)
+unfolding decoded
+says id parameters =
+    pick (eqb id 0x0013) _ _
+    (pick (eqb (length parameters) 2) _ (refusal 3)
+    (pick (outside (be16 parameters 0)) (refusal 4) (request (clear (be16 parameters 0))) refl tt) refl)
+    (pick (eqb id 0x0016) _ _ (pick (eqb (length parameters) 0) (request housekeeping) (refusal 3) tt refl)
+    (pick (eqb id 0x0032) _ (refusal 2)
+    (pick (eqb (length parameters) 2) _ (refusal 3)
+    (pick (ltb 15 (be16 parameters 0)) (refusal 4) (request (setMode (be16 parameters 0))) refl tt) refl)
+    refl))
+
+-- the tests of a command, from what it decodes to
+abbrev tested : Decoded → Bool → ℕ
+tested (request q) crowded = cond (queues (request q) && crowded) 7 0
+tested (refusal n) crowded = cond (eqb n 2) 2 (cond (eqb n 3) 3 (cond (eqb n 4) 4 0))
+
+one-of : (n : ℕ) (b : Bool) → Says (refusal n) → tested (refusal n) b ≡ n
+one-of n b h = at (eqb n 2) refl (eqb n 3) refl (eqb n 4) refl h
+  where
+    at : (x : Bool) → eqb n 2 ≡ x → (y : Bool) → eqb n 3 ≡ y → (z : Bool) → eqb n 4 ≡ z → (x || (y || z)) ≡ true
+        → cond x 2 (cond y 3 (cond z 4 0)) ≡ n
+    at true e y f z g h = sym (eqb-true n 2 e)
+    at false e true f z g h = sym (eqb-true n 3 f)
+    at false e false f true g h = sym (eqb-true n 4 g)
+    at false e false f false g h = absurd (eqb-false 0 1 refl (ap (λ (b : Bool). cond b 1 0) h))
+
+module _ (s : List ℕ) (cc : Channel) (id sequence : ℕ) (parameters : List ℕ) where
+  reply-by : (d : Decoded) → decoded id parameters ≡ d
+      → replyTo s (command cc id sequence parameters) ≡ tested d (ltb (48 - getD s waitingAt 0) 1)
+  unfolding reply rowOf
+  reply-by (request q) e = rw (e, queue-length s)
+  reply-by (refusal n) e = rw e
+
+  request-reply : (q : Request) → decoded id parameters ≡ request q
+      → replyTo s (command cc id sequence parameters) ≡ cond (queues (request q) && ltb (48 - getD s waitingAt 0) 1) 7 0
+  request-reply q e = reply-by (request q) e
+
+  refusal-reply : (n : ℕ) → decoded id parameters ≡ refusal n → replyTo s (command cc id sequence parameters) ≡ n
+  refusal-reply n e = reply-by (refusal n) e ∙ one-of n (ltb (48 - getD s waitingAt 0) 1) (subst Says e (says id parameters))
+
+  nonzero : (n : ℕ) → decoded id parameters ≡ refusal n → n ≡ 0 → ⊥
+  nonzero n e z =
+      eqb-false 0 1 refl
+      (ap (λ (b : Bool). cond b 1 0) (ap (λ (m : ℕ). eqb m 2 || (eqb m 3 || eqb m 4)) (sym z) ∙ subst Says e (says id parameters)))
+
+  -- what handling it comes to: a refusal by its number, a request that finds no room, a request that is taken
+  module _ (acted : List ℕ) (refused : ℕ → List ℕ) where
+    pub refuses : (n : ℕ) → decoded id parameters ≡ refusal n
+        → told n (refused n) ≡ handled s (command cc id sequence parameters) acted refused
+    unfolding handled
+    refuses n e = rw (refusal-reply n e, ne-eqb n 0 (nonzero n e))
+
+    pub crowds : (q : Request) → decoded id parameters ≡ request q
+        → (queues (request q) && ltb (48 - getD s waitingAt 0) 1) ≡ true
+        → told 7 (refused 7) ≡ handled s (command cc id sequence parameters) acted refused
+    unfolding handled
+    crowds q e t = rw (request-reply q e, t)
+
+    pub takes : (q : Request) → decoded id parameters ≡ request q
+        → (queues (request q) && ltb (48 - getD s waitingAt 0) 1) ≡ false
+        → told 0 acted ≡ handled s (command cc id sequence parameters) acted refused
+    unfolding handled
+    takes q e t = rw (request-reply q e, t)
+
+-- the code's test of the waiting pieces is the paper's of the free slots
+pub none-free : (b : Bool) (n : ℕ) → (b && ltb 47 n) ≡ (b && ltb (48 - n) 1)
+none-free b n = at b (ltb 47 n) refl
+  where
+    at : (b t : Bool) → ltb 47 n ≡ t → (b && ltb 47 n) ≡ (b && ltb (48 - n) 1)
+    at false t e = refl
+    at true true e = e ∙ sym (lt-ltb (48 - n) 1 (omega (arith, ltb-true 47 n e)))
+    at true false e = e ∙ sym (le-ltb (48 - n) 1 (omega (arith, ltb-false 47 n e)))
+
+-- noting a command leaves how many pieces wait
+pub noted-waits : (s : List ℕ) → Fit s → (cc : Channel) (id sequence : ℕ) → getD (notedOn s cc id sequence) waitingAt 0 ≡ getD s waitingAt 0
+unfolding noted
+noted-waits s f cc id sequence =
+    sym (queue-length (notedOn s cc id sequence))
+    ∙ ap (λ (c : Controller). length (c .queue)) (noted-view s f cc id sequence)
+    ∙ queue-length s

@@ -1,0 +1,130 @@
+-- `order::frame` meets its contract.
+-- Assumes nothing.
+use mathlib.Core.Bool.{Bool, true, false, _&&_}
+use mathlib.Core.List.{List}
+use native.Mathlib.Omega.{arith}
+use borrow.Author.Tests.{ltb-false}
+use lib.Dec.{ltb}
+use Rattle.paper.specs.Frames.{Channel}
+use Rattle.paper.specs.Step.{queues}
+use Rattle.frames.specs.Meaning.{channel}
+use Rattle.command.specs.Meaning.{asked, meant}
+use Rattle.machine.specs.Obeyed.{notedOn, erredOn, performedOn}
+use Rattle.machine.proofs.Counts.{noted-fit}
+use Rattle.order.proofs.Judged.{refuses, crowds, takes, none-free, noted-waits}
+use mathlib.Core.Path.{_≡_, sym, ap, _∙_}
+use Prim.Native.Nat.{ℕ, _-_, _<_}
+use lib.ListN.{getD, drop}
+use Rattle.wire.specs.Wire.{be16}
+use Rattle.paper.specs.Commands as Commands
+use Rattle.command.specs.Meaning.{meant}
+use Rattle.order.proofs.Judged.{refuses, crowds, takes, none-free}
+use borrow.Author.Needs.{needs}
+use Rattle.order.proofs.frame.Statement.{statement}
+use Rattle.order.proofs.frame.Tie as tie
+
+decode-requires : tie.Need-decode-requires
+decode-requires c κs = search needs
+
+enum-known-decoded : tie.Need-enum-known-decoded
+enum-known-decoded c = search needs
+
+enum-told : tie.Need-enum-told
+enum-told c = search needs
+
+refusal-requires : tie.Need-refusal-requires
+refusal-requires c κs = search needs
+
+err-requires : tie.Need-err-requires
+err-requires c κs = search needs
+
+same-length : tie.Need-same-length
+same-length c = search needs
+
+returns : tie.Need-returns
+returns c =
+    let s = c .before .before .before .before .before .before .before .before .before .before .args .s .now in
+    let f = c .before .before .before .before .before .before .before .before .before .before .args .f .now in
+    let side = channel (c .before .before .before .before .before .before .before .before .before .before .args .side) in
+    let n : ℕ = c .before .before .before .before .before .enum-told .given .0 .0 in
+    let said : meant (c .before .before .before .before .before .before .before .decode .result) ≡ Commands.refusal n = ap meant (c .before .before .before .before .before .enum-told .given .1) in
+    let r : c .before .before .before .before .refusal .result ≡ n = c .before .before .before .before .refusal .ensures ∙ ap Commands.refusedWith said in
+    rw (c .before .before .err .ensures, r) (refuses s side (be16 f 2) (be16 f 4) (drop 6 f) (performedOn (notedOn s side (be16 f 2) (be16 f 4)) (Commands.decoded (be16 f 2) (drop 6 f))) (λ m. erredOn s side m) n (sym (c .before .before .before .before .before .before .before .decode .ensures .0) ∙ said))
+
+queues-packet-requires : tie.Need-queues-packet-requires
+queues-packet-requires c κs = search needs
+
+slice-read-if1 : tie.Need-slice-read-if1
+slice-read-if1 c = search needs
+
+err-requires-2 : tie.Need-err-requires-2
+err-requires-2 c κs = search needs
+
+same-length-2 : tie.Need-same-length-2
+same-length-2 c = search needs
+
+returns-2 : tie.Need-returns-2
+returns-2 c =
+    let s = c .before .before .before .before .before .before .before .before .before .before .before .before .before .args .s .now in
+    let f = c .before .before .before .before .before .before .before .before .before .before .before .before .before .args .f .now in
+    let side = channel (c .before .before .before .before .before .before .before .before .before .before .before .before .before .args .side) in
+    let q = asked (c .before .before .before .before .before .before .before .before .decoded .given .0 .0) in
+    let said : meant (c .before .before .before .before .before .before .before .before .before .before .decode .result) ≡ Commands.request q = ap meant (c .before .before .before .before .before .before .before .before .decoded .given .1) in
+    let t : (queues (Commands.request q) && ltb (48 - getD s 46 0) 1) ≡ true = sym (none-free (queues (Commands.request q)) (getD s 46 0)) ∙ (rw (c .before .before .before .before .before .before .queues-packet .ensures) at (c .before .before .before .before .if1 .taken)) in
+    rw (c .before .before .err2 .ensures) (crowds s side (be16 f 2) (be16 f 4) (drop 6 f) (performedOn (notedOn s side (be16 f 2) (be16 f 4)) (Commands.decoded (be16 f 2) (drop 6 f))) (λ m. erredOn s side m) q (sym (c .before .before .before .before .before .before .before .before .before .before .decode .ensures .0) ∙ said) t)
+
+get16-requires : tie.Need-get16-requires
+get16-requires c κs = search needs
+
+get16-requires-2 : tie.Need-get16-requires-2
+get16-requires-2 c κs = search needs
+
+note-requires : tie.Need-note-requires
+note-requires c κs = search needs
+
+obey-requires : tie.Need-obey-requires
+obey-requires c κs =
+    let s = c .before .before .before .before .before .before .before .before .before .before .before .before .before .before .before .before .args .s .now in
+    let q = asked (c .before .before .before .before .before .before .before .before .before .before .before .decoded .given .0 .0) in
+    let said : meant (c .before .before .before .before .before .before .before .before .before .before .before .before .before .decode .result) ≡ Commands.request q = ap meant (c .before .before .before .before .before .before .before .before .before .before .before .decoded .given .1) in
+    let free : (queues (Commands.request q) && ltb 47 (getD s 46 0)) ≡ false = rw (c .before .before .before .before .before .before .before .before .before .queues-packet .ensures) at (c .before .before .before .before .before .before .before .if1 .left) in
+    rw (c .before .before .before .note .ensures) ((noted-fit s (c .before .before .before .before .before .before .before .before .before .before .before .before .before .before .before .before .pre .0) _ _ _, λ t. omega (arith, noted-waits s (c .before .before .before .before .before .before .before .before .before .before .before .before .before .before .before .before .pre .0) (channel (c .before .before .before .before .before .before .before .before .before .before .before .before .before .before .before .before .args .side)) (c .before .before .before .before .before .get16 .result) (c .before .before .before .before .get162 .result), ltb-false 47 (getD s 46 0) (rw t at free))), λ v e. c .before .before .before .before .before .before .before .before .before .before .before .before .before .decode .ensures .1 v (said ∙ ap Commands.request e))
+
+same-length-3 : tie.Need-same-length-3
+same-length-3 c = search needs
+
+returns-3 : tie.Need-returns-3
+unfolding performedOn
+returns-3 c =
+    let s = c .before .before .before .before .before .before .before .before .before .before .before .before .before .before .before .before .before .before .before .args .s .now in
+    let f = c .before .before .before .before .before .before .before .before .before .before .before .before .before .before .before .before .before .before .before .args .f .now in
+    let side = channel (c .before .before .before .before .before .before .before .before .before .before .before .before .before .before .before .before .before .before .before .args .side) in
+    let q = asked (c .before .before .before .before .before .before .before .before .before .before .before .before .before .before .decoded .given .0 .0) in
+    let said : meant (c .before .before .before .before .before .before .before .before .before .before .before .before .before .before .before .before .decode .result) ≡ Commands.request q = ap meant (c .before .before .before .before .before .before .before .before .before .before .before .before .before .before .decoded .given .1) in
+    let e : Commands.decoded (be16 f 2) (drop 6 f) ≡ Commands.request q = sym (c .before .before .before .before .before .before .before .before .before .before .before .before .before .before .before .before .decode .ensures .0) ∙ said in
+    let t : (queues (Commands.request q) && ltb (48 - getD s 46 0) 1) ≡ false = sym (none-free (queues (Commands.request q)) (getD s 46 0)) ∙ (rw (c .before .before .before .before .before .before .before .before .before .before .before .before .queues-packet .ensures) at (c .before .before .before .before .before .before .before .before .before .before .if1 .left)) in
+    let act : c .before .before .obey .last .0 ≡ performedOn (notedOn s side (be16 f 2) (be16 f 4)) (Commands.decoded (be16 f 2) (drop 6 f)) = c .before .before .obey .ensures ∙ rw (c .before .before .before .before .before .before .note .ensures, c .before .before .before .before .before .before .before .before .get16 .ensures, c .before .before .before .before .before .before .before .get162 .ensures, e) in
+    rw act (takes s side (be16 f 2) (be16 f 4) (drop 6 f) (performedOn (notedOn s side (be16 f 2) (be16 f 4)) (Commands.decoded (be16 f 2) (drop 6 f))) (λ m. erredOn s side m) q e t)
+
+pub frame-spec : {M : Type 1} → statement M
+frame-spec =
+    tie.close
+    (tie.spec
+    decode-requires
+    enum-known-decoded
+    enum-told
+    refusal-requires
+    err-requires
+    same-length
+    returns
+    queues-packet-requires
+    slice-read-if1
+    err-requires-2
+    same-length-2
+    returns-2
+    get16-requires
+    get16-requires-2
+    note-requires
+    obey-requires
+    same-length-3
+    returns-3)

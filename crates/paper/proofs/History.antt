@@ -1,0 +1,529 @@
+-- Document 01, the counts along a run: "equal to the history's number", modulo 65536, 256 and 4096; and what the packets that an
+-- accepted frame queues do to queue and counts.
+-- Assumes nothing.
+use mathlib.Core.Path.{_≡_, refl, sym, ap, _∙_}
+use mathlib.Core.Bool.{Bool, true, false, cond, not, _&&_, _||_}
+use mathlib.Core.List.{List, [], _∷_, _++_, append-nil, append-assoc}
+use Prim.Native.Nat.{ℕ, zero, suc, _+_, _%_}
+use native.Mathlib.Omega.{arith}
+use borrow.Author.Tests.{eqb-true, eqb-false}
+use lib.Dec.{eqb, leb}
+use lib.ListN.{length, drop}
+use Rattle.paper.specs.Frames.{Channel, cdmuA, cdmuB, Frame, broadcast, command, tick, sample, poll, status, analogue, faulty, frameOf}
+use Rattle.paper.specs.Clock.{seconds, secondsOf}
+use Rattle.paper.specs.Mode.{Mode, surface, same, modeOf, ruled}
+use Rattle.paper.specs.Impact.{collects}
+use Rattle.paper.specs.Commands.{clear, housekeeping, setMode, Decoded, request, refusal, names, decoded}
+use Rattle.paper.specs.Streams.{acc-i, hk, pieces}
+use Rattle.paper.specs.Packets.{chunks, cut}
+use Rattle.paper.specs.Queue.{Piece, wrap, after, put, without}
+use Rattle.paper.specs.Controller.{Both, at, raised, raised8, raisedAt, Tallies, Open, Controller, start, queued, withImpact, stampNow}
+use Rattle.paper.specs.Housekeeping.{housekeepingPacket}
+use Rattle.paper.specs.Acts.{enter, heard, moved, counted as ticked, inProximity, last, completes, taken, watching, ended, impactPacket, completed, ticks, joinedBy, closes, closed, extended, sampled, noted, cleared, commanded, obeyed, polled, performed, polledFrom, accepted, answer}
+use Rattle.paper.specs.Step.{holds, queues, nothingWaits, reply, lateHeard, erred, isError, refused, Outcome, outcome, replied, step}
+use Rattle.paper.specs.Runs.{Call, runs}
+use Rattle.paper.specs.History.{history, howMany, sameChannel, commandOn, broadcastsOn, packetsOn, commandsIn, pollsOn, errorsIn, isAccepted, raisesBroadcasts, raisesPackets, raisesCommands, raisesTelemetry, raisesErrors, fullPacket, onlyIf, sent, sentAt, sentBy, piecesOf, countsAfter, numberedAll, spares, stillWaiting, stillWaitingAt}
+use Rattle.paper.proofs.Refusals.{passed}
+
+-- ---- what packets do to queue and counts
+
+-- a controller d that is c with its queue left as q and packets ps queued behind it, one after the other
+pub record Queues (c d : Controller) (q : List (Piece (List ℕ))) (ps : List (ℕ × List ℕ)) : Type 0 where
+  pub queue : d .queue ≡ q ++ numberedAll wrap (c .counts) ps
+  pub counts : d .counts ≡ countsAfter wrap (c .counts) ps
+
+-- none
+queues-none : (c d : Controller) (q : List (Piece (List ℕ))) → d .queue ≡ q → d .counts ≡ c .counts → Queues c d q []
+unfolding numberedAll countsAfter
+queues-none c d q e f = record { queue = e ∙ sym (append-nil q); counts = f }
+
+-- one, by the machine's own way to queue it; what else differs between b and c does not count
+queues-one : (c b : Controller) (s : ℕ) (x : List ℕ) → b .queue ≡ c .queue → b .counts ≡ c .counts
+    → Queues c (queued b s x) (c .queue) ((s, x) ∷ [])
+unfolding numberedAll countsAfter queued
+queues-one c b s x e f =
+    record {
+      queue = rw (e, f) (ap (λ l. c .queue ++ l) (sym (append-nil _)));
+      counts = ap (λ g. put g s (after wrap (g s) (cut (pieces s) x))) f;
+    }
+
+-- an entry queues nothing
+queues-enter : (c d : Controller) (q : List (Piece (List ℕ))) (ps : List (ℕ × List ℕ)) (mode : Mode) (locked : Bool) (reference : ℕ)
+    → Queues c d q ps → Queues c (enter d mode locked reference) q ps
+unfolding enter
+queues-enter c d q ps mode locked reference k = record { queue = k .queue; counts = k .counts }
+
+queues-moved : (c d : Controller) (q : List (Piece (List ℕ))) (ps : List (ℕ × List ℕ)) → Queues c d q ps → Queues c (moved d) q ps
+unfolding moved
+queues-moved c d q ps k = by (same mode (d .standing .mode))
+  where
+    mode : Mode
+    mode =
+        ruled (d .standing)
+        (record { t = seconds (d .clock .time); altitude = d .clock .altitude; collecting = collects (d .impact .collection) })
+
+    by : (b : Bool) → Queues c (cond b d (enter d mode (d .standing .locked) (seconds (d .clock .time)))) q ps
+    by true = k
+    by false = queues-enter c d q ps mode (d .standing .locked) (seconds (d .clock .time)) k
+
+queues-completed : (c e : Controller) → e .queue ≡ c .queue → e .counts ≡ c .counts
+    → Queues c (completed e) (c .queue) ((acc-i, impactPacket (e .impact)) ∷ [])
+unfolding completed
+queues-completed c e p q = by (e .standing .locked)
+  where
+    done : Controller
+    done = queued (withImpact e (ended (e .impact))) acc-i (impactPacket (e .impact))
+
+    done-queues : Queues c done (c .queue) ((acc-i, impactPacket (e .impact)) ∷ [])
+    done-queues = queues-one c (withImpact e (ended (e .impact))) acc-i (impactPacket (e .impact)) p q
+
+    by : (b : Bool)
+        → Queues c (cond b done (enter done surface false (secondsOf (e .impact .stamp .time)))) (c .queue)
+        ((acc-i, impactPacket (e .impact)) ∷ [])
+    by true = done-queues
+    by false = queues-enter c done _ _ surface false (secondsOf (e .impact .stamp .time)) done-queues
+
+queues-ticks : (c : Controller) (r : ℕ)
+    → Queues c (ticks c r) (c .queue) (onlyIf (completes c) (acc-i, impactPacket (taken (c .impact) r)))
+unfolding ticks ticked completes watching
+queues-ticks c r = by (inProximity c) (last (c .impact .collection))
+  where
+    d : Controller
+    d = ticked c
+
+    e : Controller
+    e = withImpact d (taken (c .impact) r)
+
+    by : (b f : Bool)
+        → Queues c (cond b (cond (b && f) (completed e) (watching e)) d) (c .queue)
+        (onlyIf (b && f) (acc-i, impactPacket (taken (c .impact) r)))
+    by true true = queues-completed c e refl refl
+    by true false = queues-none c (watching e) (c .queue) refl refl
+    by false f = queues-none c d (c .queue) refl refl
+
+queues-sampled : (c : Controller) (s : ℕ) (x : List ℕ)
+    → Queues c (sampled c s x) (c .queue) (onlyIf (closes c s) (s, fullPacket c s x))
+unfolding sampled closed extended fullPacket
+queues-sampled c s x = by (closes c s)
+  where
+    o : Open
+    o = joinedBy (c .opened s) (stampNow c s) x
+
+    by : (b : Bool) → Queues c (cond b (closed c s o) (extended c s o)) (c .queue) (onlyIf b (s, fullPacket c s x))
+    by true = queues-one c _ s _ refl refl
+    by false = queues-none c (extended c s o) (c .queue) refl refl
+
+queues-performed : (c b : Controller) (d : Decoded) → b .queue ≡ c .queue → b .counts ≡ c .counts
+    → Queues c (performed b d) (spares d (c .queue)) (onlyIf (queues d) (hk, housekeepingPacket b))
+unfolding performed obeyed cleared commanded
+queues-performed c b (request (clear mask)) e f = queues-none c (cleared b mask) _ (ap (without (names mask)) e) f
+queues-performed c b (request housekeeping) e f = queues-one c b hk (housekeepingPacket b) e f
+queues-performed c b (request (setMode value)) e f =
+    queues-enter c (withImpact b (ended (b .impact))) (c .queue) [] (modeOf (value % 8)) (leb 8 value) (seconds (b .clock .time))
+    (queues-none c (withImpact b (ended (b .impact))) (c .queue) e f)
+queues-performed c b (refusal n) e f = queues-none c b (c .queue) e f
+
+queues-polled : (c : Controller) (cc : Channel) (q : List (Piece (List ℕ))) → c .queue ≡ q
+    → Queues c (polledFrom c cc q) (drop 1 q) []
+unfolding polledFrom polled
+queues-polled c cc [] e = queues-none c c [] e refl
+queues-polled c cc (p ∷ rest) e = queues-none c (polled c cc rest) rest refl refl
+
+-- The law that ties `sent` to the machine: an accepted frame leaves of the queue what it spares, and behind that the packets
+-- that it sends, queued one after the other; counts move on by those packets alone, so "cleared pieces have used theirs".
+pub queues-accepted : (c : Controller) (f : Frame) → Queues c (accepted c f) (stillWaiting f (c .queue)) (sent c f)
+unfolding accepted heard noted sent
+queues-accepted c (broadcast cc time altitude spin phase) =
+    queues-moved c (heard c cc time altitude spin phase) (c .queue) []
+    (queues-none c (heard c cc time altitude spin phase) (c .queue) refl refl)
+queues-accepted c (command cc id sequence parameters) =
+    queues-performed c (noted c cc id sequence) (decoded id parameters) refl refl
+queues-accepted c (tick r) = queues-ticks c r
+queues-accepted c (sample s x) = queues-sampled c s x
+queues-accepted c (poll cc) = queues-polled c cc (c .queue) refl
+queues-accepted c (status cc low flags) = queues-none c c (c .queue) refl refl
+queues-accepted c (analogue bytes) = queues-none c (accepted c (analogue bytes)) (c .queue) refl refl
+queues-accepted c faulty = queues-none c c (c .queue) refl refl
+
+-- a poll: the first piece is gone
+pub poll-queue : (c : Controller) (cc : Channel) → accepted c (poll cc) .queue ≡ drop 1 (c .queue)
+unfolding numberedAll sent
+poll-queue c cc = queues-accepted c (poll cc) .queue ∙ append-nil _
+
+pub poll-counts : (c : Controller) (cc : Channel) → accepted c (poll cc) .counts ≡ c .counts
+unfolding countsAfter sent
+poll-counts c cc = queues-accepted c (poll cc) .counts
+
+-- a clear: "waiting pieces of named streams go, the rest keep their order", "cleared pieces have used theirs"
+pub clear-queue : (c : Controller) (cc : Channel) (id sequence mask : ℕ) (parameters : List ℕ)
+    → decoded id parameters ≡ request (clear mask)
+    → accepted c (command cc id sequence parameters) .queue ≡ without (names mask) (c .queue)
+unfolding accepted performed obeyed cleared noted
+clear-queue c cc id sequence mask parameters e = rw e
+
+pub clear-counts : (c : Controller) (cc : Channel) (id sequence mask : ℕ) (parameters : List ℕ)
+    → decoded id parameters ≡ request (clear mask) → accepted c (command cc id sequence parameters) .counts ≡ c .counts
+unfolding accepted performed obeyed cleared noted
+clear-counts c cc id sequence mask parameters e = rw e
+
+-- a refusal queues nothing and takes nothing away
+pub queues-refused : (n : ℕ) (f : Frame) (c : Controller) → Queues c (refused n f c) (c .queue) []
+unfolding refused lateHeard erred
+queues-refused n (broadcast cc time altitude spin phase) c = by (eqb n 5)
+  where
+    by : (b : Bool) → Queues c (cond b (lateHeard c cc) c) (c .queue) []
+    by true = queues-none c (lateHeard c cc) (c .queue) refl refl
+    by false = queues-none c c (c .queue) refl refl
+queues-refused n (command cc id sequence parameters) c = by (isError n)
+  where
+    by : (b : Bool) → Queues c (cond b (erred c cc n) c) (c .queue) []
+    by true = queues-none c (erred c cc n) (c .queue) refl refl
+    by false = queues-none c c (c .queue) refl refl
+queues-refused n (tick r) c = queues-none c c (c .queue) refl refl
+queues-refused n (sample s x) c = queues-none c c (c .queue) refl refl
+queues-refused n (poll cc) c = queues-none c c (c .queue) refl refl
+queues-refused n (status cc low flags) c = queues-none c c (c .queue) refl refl
+queues-refused n (analogue bytes) c = queues-none c c (c .queue) refl refl
+queues-refused n faulty c = queues-none c c (c .queue) refl refl
+
+-- the law of a call
+pub queues-step : (c : Controller) (x : Call) → Queues c (step c (x .bytes) (x .room) .next) (stillWaitingAt c x) (sentAt c x)
+unfolding step replied stillWaitingAt sentAt
+queues-step c x = by (reply (holds c) f (x .room)) (eqb (reply (holds c) f (x .room)) 0) refl
+  where
+    f : Frame
+    f = frameOf (x .bytes)
+
+    o : Bool → ℕ → Outcome
+    o b n = cond b (outcome 0 (answer c f) (accepted c f)) (outcome n [] (refused n f c))
+
+    by : (n : ℕ) (b : Bool) → eqb n 0 ≡ b
+        → Queues c (o b n .next) (cond (isAccepted (o b n .reply)) (stillWaiting f (c .queue)) (c .queue))
+        (cond (isAccepted (o b n .reply)) (sent c f) [])
+    by n true e = queues-accepted c f
+    by n false e = rw e (queues-refused n f c)
+
+-- ---- what a call adds to each count
+
+-- a count that goes on, or stays
+abbrev raisedIf : Bool → ℕ → ℕ
+raisedIf b n = cond b (raised n) n
+
+abbrev raised8If : Bool → ℕ → ℕ
+raised8If b n = cond b (raised8 n) n
+
+-- the step: the counts u that a frame leaves, having got its reply, of the counts t before
+pub record Adds (f : Frame) (n : ℕ) (t u : Tallies) : Type 0 where
+  pub broadcasts : (cc : Channel) → at cc (u .broadcasts) ≡ raisedIf (raisesBroadcasts cc f n) (at cc (t .broadcasts))
+  pub packets : (cc : Channel) → at cc (u .packets) ≡ raisedIf (raisesPackets cc f n) (at cc (t .packets))
+  pub telemetry : (cc : Channel) → at cc (u .telemetry) ≡ raisedIf (raisesTelemetry cc f n) (at cc (t .telemetry))
+  pub commands : u .commands ≡ raisedIf (raisesCommands f n) (t .commands)
+  pub errors : u .errors ≡ raised8If (raisesErrors f n) (t .errors)
+
+-- only the named channel's count goes on
+at-raised : (cc dd : Channel) (m : Both) (b : Bool) → at cc (cond b (raisedAt dd m) m) ≡ raisedIf (sameChannel cc dd && b) (at cc m)
+at-raised cdmuA cdmuA m true = refl
+at-raised cdmuA cdmuA m false = refl
+at-raised cdmuA cdmuB m true = refl
+at-raised cdmuA cdmuB m false = refl
+at-raised cdmuB cdmuA m true = refl
+at-raised cdmuB cdmuA m false = refl
+at-raised cdmuB cdmuB m true = refl
+at-raised cdmuB cdmuB m false = refl
+
+-- a command is one on either channel
+either-channel : (dd : Channel) → sameChannel cdmuA dd || sameChannel cdmuB dd ≡ true
+either-channel cdmuA = refl
+either-channel cdmuB = refl
+
+tallies-moved : (c : Controller) → moved c .tallies ≡ c .tallies
+unfolding moved enter
+tallies-moved c = by (same mode (c .standing .mode))
+  where
+    mode : Mode
+    mode =
+        ruled (c .standing)
+        (record { t = seconds (c .clock .time); altitude = c .clock .altitude; collecting = collects (c .impact .collection) })
+
+    by : (b : Bool) → cond b c (enter c mode (c .standing .locked) (seconds (c .clock .time))) .tallies ≡ c .tallies
+    by true = refl
+    by false = refl
+
+tallies-completed : (c : Controller) → completed c .tallies ≡ c .tallies
+unfolding completed queued enter
+tallies-completed c = by (c .standing .locked)
+  where
+    done : Controller
+    done = queued (withImpact c (ended (c .impact))) acc-i (impactPacket (c .impact))
+
+    by : (b : Bool) → cond b done (enter done surface false (secondsOf (c .impact .stamp .time))) .tallies ≡ c .tallies
+    by true = refl
+    by false = refl
+
+tallies-ticks : (c : Controller) (r : ℕ) → ticks c r .tallies ≡ c .tallies
+unfolding ticks ticked watching
+tallies-ticks c r = by (inProximity c) (completes c)
+  where
+    e : Controller
+    e = withImpact (ticked c) (taken (c .impact) r)
+
+    by : (b f : Bool) → cond b (cond f (completed e) (watching e)) (ticked c) .tallies ≡ c .tallies
+    by true true = tallies-completed e
+    by true false = refl
+    by false f = refl
+
+tallies-sampled : (c : Controller) (s : ℕ) (x : List ℕ) → sampled c s x .tallies ≡ c .tallies
+unfolding sampled closed extended queued
+tallies-sampled c s x = by (closes c s)
+  where
+    o : Open
+    o = joinedBy (c .opened s) (stampNow c s) x
+
+    by : (b : Bool) → cond b (closed c s o) (extended c s o) .tallies ≡ c .tallies
+    by true = refl
+    by false = refl
+
+tallies-performed : (c : Controller) (d : Decoded) → performed c d .tallies ≡ c .tallies
+unfolding performed obeyed cleared commanded queued enter
+tallies-performed c (request (clear mask)) = refl
+tallies-performed c (request housekeeping) = refl
+tallies-performed c (request (setMode value)) = refl
+tallies-performed c (refusal n) = refl
+
+-- a frame that is neither broadcast, command nor poll adds to no count, nor does a refused poll
+adds-none : (f : Frame) (n : ℕ) (t : Tallies) → ((cc : Channel) → raisesBroadcasts cc f n ≡ false)
+    → ((cc : Channel) → commandOn cc f ≡ false) → ((cc : Channel) → raisesTelemetry cc f n ≡ false) → Adds f n t t
+adds-none f n t b k p =
+    record {
+      broadcasts = λ cc. rw (b cc);
+      packets = λ cc. rw (k cc);
+      telemetry = λ cc. rw (p cc);
+      commands = rw (k cdmuA, k cdmuB);
+      errors = rw (k cdmuA, k cdmuB);
+    }
+
+adds-polled : (c : Controller) (dd : Channel) (q : List (Piece (List ℕ))) → eqb (length q) 0 ≡ false
+    → Adds (poll dd) 0 (c .tallies) (polledFrom c dd q .tallies)
+unfolding polledFrom polled
+adds-polled c dd [] h = absurd (eqb-false 0 0 h refl)
+adds-polled c dd (p ∷ rest) h =
+    record {
+      broadcasts = λ cc. refl;
+      packets = λ cc. refl;
+      telemetry = λ cc. at-raised cc dd (c .tallies .telemetry) true;
+      commands = refl;
+      errors = refl;
+    }
+
+adds-accepted : (c : Controller) (f : Frame) → nothingWaits f c ≡ false → Adds f 0 (c .tallies) (accepted c f .tallies)
+unfolding accepted heard noted
+adds-accepted c (broadcast dd time altitude spin phase) h =
+    rw (tallies-moved (heard c dd time altitude spin phase))
+    (record {
+      broadcasts = λ cc. at-raised cc dd (c .tallies .broadcasts) true;
+      packets = λ cc. refl;
+      telemetry = λ cc. refl;
+      commands = refl;
+      errors = refl;
+    })
+adds-accepted c (command dd id sequence parameters) h =
+    rw (tallies-performed (noted c dd id sequence) (decoded id parameters))
+    (record {
+      broadcasts = λ cc. refl;
+      packets = λ cc. at-raised cc dd (c .tallies .packets) true;
+      telemetry = λ cc. refl;
+      commands = rw (either-channel dd);
+      errors = rw (either-channel dd);
+    })
+adds-accepted c (tick r) h = rw (tallies-ticks c r) (adds-none (tick r) 0 (c .tallies) (λ cc. refl) (λ cc. refl) (λ cc. refl))
+adds-accepted c (sample s x) h =
+    rw (tallies-sampled c s x) (adds-none (sample s x) 0 (c .tallies) (λ cc. refl) (λ cc. refl) (λ cc. refl))
+adds-accepted c (poll cc) h = adds-polled c cc (c .queue) h
+adds-accepted c (status cc low flags) h = adds-none (status cc low flags) 0 (c .tallies) (λ cc. refl) (λ cc. refl) (λ cc. refl)
+adds-accepted c (analogue bytes) h = adds-none (analogue bytes) 0 (c .tallies) (λ cc. refl) (λ cc. refl) (λ cc. refl)
+adds-accepted c faulty h = adds-none faulty 0 (c .tallies) (λ cc. refl) (λ cc. refl) (λ cc. refl)
+
+adds-refused : (n : ℕ) (f : Frame) (c : Controller) → eqb n 0 ≡ false → Adds f n (c .tallies) (refused n f c .tallies)
+unfolding refused lateHeard erred
+adds-refused n (broadcast dd time altitude spin phase) c z = by (eqb n 5) refl
+  where
+    by : (b : Bool) → eqb n 5 ≡ b
+        → Adds (broadcast dd time altitude spin phase) n (c .tallies) (cond b (lateHeard c dd) c .tallies)
+    by true e =
+        record {
+          broadcasts = λ cc. rw (z, e) (at-raised cc dd (c .tallies .broadcasts) true);
+          packets = λ cc. refl;
+          telemetry = λ cc. refl;
+          commands = refl;
+          errors = refl;
+        }
+    by false e =
+        record {
+          broadcasts = λ cc. rw (z, e) (at-raised cc dd (c .tallies .broadcasts) false);
+          packets = λ cc. refl;
+          telemetry = λ cc. refl;
+          commands = refl;
+          errors = refl;
+        }
+adds-refused n (command dd id sequence parameters) c z = by (isError n) refl
+  where
+    by : (b : Bool) → isError n ≡ b
+        → Adds (command dd id sequence parameters) n (c .tallies) (cond b (erred c dd n) c .tallies)
+    by true e =
+        record {
+          broadcasts = λ cc. refl;
+          packets = λ cc. rw (z, e) (at-raised cc dd (c .tallies .packets) true);
+          telemetry = λ cc. refl;
+          commands = rw (either-channel dd, z);
+          errors = rw (either-channel dd, e);
+        }
+    by false e =
+        record {
+          broadcasts = λ cc. refl;
+          packets = λ cc. rw (z, e) (at-raised cc dd (c .tallies .packets) false);
+          telemetry = λ cc. refl;
+          commands = rw (either-channel dd, z);
+          errors = rw (either-channel dd, e);
+        }
+adds-refused n (tick r) c z = adds-none (tick r) n (c .tallies) (λ cc. refl) (λ cc. refl) (λ cc. refl)
+adds-refused n (sample s x) c z = adds-none (sample s x) n (c .tallies) (λ cc. refl) (λ cc. refl) (λ cc. refl)
+adds-refused n (poll dd) c z = adds-none (poll dd) n (c .tallies) (λ cc. refl) (λ cc. refl) (λ cc. refused-poll (sameChannel cc dd))
+  where
+    refused-poll : (b : Bool) → b && eqb n 0 ≡ false
+    refused-poll true = z
+    refused-poll false = refl
+adds-refused n (status cc low flags) c z = adds-none (status cc low flags) n (c .tallies) (λ cc. refl) (λ cc. refl) (λ cc. refl)
+adds-refused n (analogue bytes) c z = adds-none (analogue bytes) n (c .tallies) (λ cc. refl) (λ cc. refl) (λ cc. refl)
+adds-refused n faulty c z = adds-none faulty n (c .tallies) (λ cc. refl) (λ cc. refl) (λ cc. refl)
+
+pub adds-step : (c : Controller) (bytes : List ℕ) (room : ℕ)
+    → Adds (frameOf bytes) (step c bytes room .reply) (c .tallies) (step c bytes room .next .tallies)
+unfolding step replied
+adds-step c bytes room = by (reply (holds c) f room) refl (eqb (reply (holds c) f room) 0) refl
+  where
+    f : Frame
+    f = frameOf bytes
+
+    o : Bool → ℕ → Outcome
+    o b n = cond b (outcome 0 (answer c f) (accepted c f)) (outcome n [] (refused n f c))
+
+    by : (n : ℕ) → reply (holds c) f room ≡ n → (b : Bool) → eqb n 0 ≡ b
+        → Adds f (o b n .reply) (c .tallies) (o b n .next .tallies)
+    by n r true e = adds-accepted c f (passed c f room (r ∙ eqb-true n 0 e) .waits)
+    by n r false e = adds-refused n f c e
+
+-- ---- counts along a run
+
+-- The counts that c holds are the numbers of the history h and of the queued packets ps.
+pub record Counted (c : Controller) (h : List (Frame × ℕ)) (ps : List (ℕ × List ℕ)) : Type 0 where
+  pub broadcasts : (cc : Channel) → at cc (c .tallies .broadcasts) ≡ broadcastsOn cc h % 65536
+  pub packets : (cc : Channel) → at cc (c .tallies .packets) ≡ packetsOn cc h % 65536
+  pub telemetry : (cc : Channel) → at cc (c .tallies .telemetry) ≡ pollsOn cc h % 65536
+  pub commands : c .tallies .commands ≡ commandsIn h % 65536
+  pub errors : c .tallies .errors ≡ errorsIn h % 256
+  pub streams : (t : ℕ) → c .counts t ≡ piecesOf t ps % 4096
+
+how-many-snoc : (test : Frame → ℕ → Bool) (h : List (Frame × ℕ)) (f : Frame) (n : ℕ)
+    → howMany test (h ++ ((f, n) ∷ [])) ≡ howMany test h + cond (test f n) 1 0
+how-many-snoc test [] f n = omega arith
+how-many-snoc test (e ∷ h) f n = let r = how-many-snoc test h f n in omega arith
+
+pieces-append : (t : ℕ) (ps qs : List (ℕ × List ℕ)) → piecesOf t (ps ++ qs) ≡ piecesOf t ps + piecesOf t qs
+pieces-append t [] qs = omega arith
+pieces-append t (p ∷ ps) qs = let r = pieces-append t ps qs in omega arith
+
+-- a raised count is the number with one more, modulo its size
+raise : (b : Bool) (x m : ℕ) → x ≡ m % 65536 → raisedIf b x ≡ (m + cond b 1 0) % 65536
+raise true x m e = omega arith
+raise false x m e = omega arith
+
+raise8 : (b : Bool) (x m : ℕ) → x ≡ m % 256 → raised8If b x ≡ (m + cond b 1 0) % 256
+raise8 true x m e = omega arith
+raise8 false x m e = omega arith
+
+module _ (test : Frame → ℕ → Bool) (h : List (Frame × ℕ)) (f : Frame) (n x : ℕ) where
+  goes-on : x ≡ howMany test h % 65536 → raisedIf (test f n) x ≡ howMany test (h ++ ((f, n) ∷ [])) % 65536
+  goes-on e = rw how-many-snoc (raise (test f n) x (howMany test h) e)
+
+  goes-on8 : x ≡ howMany test h % 256 → raised8If (test f n) x ≡ howMany test (h ++ ((f, n) ∷ [])) % 256
+  goes-on8 e = rw how-many-snoc (raise8 (test f n) x (howMany test h) e)
+
+-- counts go on by a packet's pieces
+length-chunks : (n k : ℕ) (l : List ℕ) → length (chunks n k l) ≡ k
+length-chunks n zero l = refl
+length-chunks n (suc k) l = ap suc (length-chunks n k (drop n l))
+
+pub length-cut : (k : ℕ) (x : List ℕ) → length (cut k x) ≡ k
+unfolding cut
+length-cut k x = length-chunks 118 k _
+
+pub after-wrap : (m : ℕ) (xs : List (List ℕ)) (n : ℕ) → n ≡ m % 4096 → after wrap n xs ≡ (m + length xs) % 4096
+unfolding after
+after-wrap m [] n e = omega arith
+after-wrap m (x ∷ xs) n e = after-wrap (suc m) xs (wrap n) (omega arith) ∙ ap (λ k. k % 4096) (omega arith)
+
+pub counts-after : (ps : List (ℕ × List ℕ)) (counts : ℕ → ℕ) (t m : ℕ) → counts t ≡ m % 4096
+    → countsAfter wrap counts ps t ≡ (m + piecesOf t ps) % 4096
+unfolding countsAfter put
+counts-after [] counts t m e = omega arith
+counts-after (p ∷ ps) counts t m e = counts-after ps _ t _ (by (eqb (p .0) t) refl) ∙ ap (λ k. k % 4096) (omega arith)
+  where
+    by : (b : Bool) → eqb (p .0) t ≡ b
+        → cond b (after wrap (counts (p .0)) (cut (pieces (p .0)) (p .1))) (counts t) ≡ (m + cond b (pieces t) 0) % 4096
+    by true q =
+        rw (eqb-true (p .0) t q) (after-wrap m (cut (pieces t) (p .1)) (counts t) e ∙ rw (length-cut (pieces t) (p .1)))
+    by false q = omega arith
+
+counted-step : (c : Controller) (x : Call) (h : List (Frame × ℕ)) (ps : List (ℕ × List ℕ)) → Counted c h ps
+    → Counted (step c (x .bytes) (x .room) .next) (h ++ ((frameOf (x .bytes), step c (x .bytes) (x .room) .reply) ∷ []))
+    (ps ++ sentAt c x)
+counted-step c x h ps k =
+    record {
+      broadcasts = λ cc. a .broadcasts cc ∙ goes-on (raisesBroadcasts cc) h f n _ (k .broadcasts cc);
+      packets = λ cc. a .packets cc ∙ goes-on (raisesPackets cc) h f n _ (k .packets cc);
+      telemetry = λ cc. a .telemetry cc ∙ goes-on (raisesTelemetry cc) h f n _ (k .telemetry cc);
+      commands = a .commands ∙ goes-on raisesCommands h f n _ (k .commands);
+      errors = a .errors ∙ goes-on8 raisesErrors h f n _ (k .errors);
+      streams =
+          λ t.
+          ap (λ g. g t) (queues-step c x .counts)
+          ∙ counts-after (sentAt c x) (c .counts) t (piecesOf t ps) (k .streams t)
+          ∙ rw (pieces-append t ps (sentAt c x));
+    }
+  where
+    f : Frame
+    f = frameOf (x .bytes)
+
+    n : ℕ
+    n = step c (x .bytes) (x .room) .reply
+
+    a : Adds f n (c .tallies) (step c (x .bytes) (x .room) .next .tallies)
+    a = adds-step c (x .bytes) (x .room)
+
+-- from any history so far
+pub counted-runs : (xs : List Call) (c : Controller) (h : List (Frame × ℕ)) (ps : List (ℕ × List ℕ)) → Counted c h ps
+    → Counted (runs c xs) (h ++ history c xs) (ps ++ sentBy c xs)
+unfolding runs history sentBy
+counted-runs [] c h ps k = rw (append-nil h, append-nil ps) k
+counted-runs (x ∷ xs) c h ps k =
+    simp append-assoc at (counted-runs xs (step c (x .bytes) (x .room) .next) _ _ (counted-step c x h ps k))
+
+-- From a fresh start, over any calls: broadcast, command packet, telemetry and command counts are the history's numbers modulo
+-- 65536, the error count modulo 256, and each stream's next count is the number of pieces ever queued, modulo 4096.
+pub counted : (xs : List Call) → Counted (runs start xs) (history start xs) (sentBy start xs)
+counted xs = counted-runs xs start [] [] fresh
+  where
+    fresh : Counted start [] []
+    fresh = unfold start in
+        record {
+          broadcasts = λ cc. zeros cc;
+          packets = λ cc. zeros cc;
+          telemetry = λ cc. zeros cc;
+          commands = refl;
+          errors = refl;
+          streams = λ t. refl;
+        }
+      where
+        zeros : (cc : Channel) → at cc (record { a = 0; b = 0 }) ≡ 0
+        zeros cdmuA = refl
+        zeros cdmuB = refl

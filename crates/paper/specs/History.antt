@@ -1,0 +1,189 @@
+-- What a run's history holds: its frames and the replies to them, the numbers that the counts stand for, counted from frames and
+-- replies alone, and the datastream packets that were queued, with the number of their pieces.
+-- Assumes nothing.
+use mathlib.Core.Bool.{Bool, true, false, cond, _&&_, _||_}
+use mathlib.Core.List.{List, [], _∷_, _++_}
+use Prim.Native.Nat.{ℕ, _+_}
+use lib.Dec.{eqb}
+use lib.ListN.{drop}
+use Rattle.paper.specs.Frames.{Channel, cdmuA, cdmuB, Frame, broadcast, command, tick, sample, poll, status, analogue, faulty, frameOf}
+use Rattle.paper.specs.Commands.{clear, housekeeping, setMode, Decoded, request, refusal, names, decoded}
+use Rattle.paper.specs.Streams.{acc-i, hk, pieces}
+use Rattle.paper.specs.Packets.{dataOf, datastream, cut}
+use Rattle.paper.specs.Queue.{Piece, numbered, after, put, without}
+use Rattle.paper.specs.Controller.{Open, Controller, stampNow}
+use Rattle.paper.specs.Housekeeping.{housekeepingPacket}
+use Rattle.paper.specs.Acts.{completes, taken, impactPacket, joinedBy, closes, noted}
+use Rattle.paper.specs.Step.{queues, isError, Outcome, step}
+use Rattle.paper.specs.Runs.{Call}
+
+-- each call's frame and the reply to it, in order
+unfoldable pub history : Controller → List Call → List (Frame × ℕ)
+history c [] = []
+history c (x ∷ xs) =
+    let o : Outcome = step c (x .bytes) (x .room) in
+    (frameOf (x .bytes), o .reply) ∷ history (o .next) xs
+
+-- how many pass a test of frame and reply
+abbrev pub howMany : (Frame → ℕ → Bool) → List (Frame × ℕ) → ℕ
+howMany test [] = 0
+howMany test (h ∷ hs) = cond (test (h .0) (h .1)) 1 0 + howMany test hs
+
+-- ---- whose frame it is
+
+abbrev pub sameChannel : Channel → Channel → Bool
+sameChannel cdmuA cdmuA = true
+sameChannel cdmuA cdmuB = false
+sameChannel cdmuB cdmuA = false
+sameChannel cdmuB cdmuB = true
+
+abbrev pub broadcastOn : Channel → Frame → Bool
+broadcastOn cc (broadcast dd time altitude spin phase) = sameChannel cc dd
+broadcastOn cc (command dd id sequence parameters) = false
+broadcastOn cc (tick r) = false
+broadcastOn cc (sample s x) = false
+broadcastOn cc (poll dd) = false
+broadcastOn cc (status dd low flags) = false
+broadcastOn cc (analogue bytes) = false
+broadcastOn cc faulty = false
+
+abbrev pub commandOn : Channel → Frame → Bool
+commandOn cc (broadcast dd time altitude spin phase) = false
+commandOn cc (command dd id sequence parameters) = sameChannel cc dd
+commandOn cc (tick r) = false
+commandOn cc (sample s x) = false
+commandOn cc (poll dd) = false
+commandOn cc (status dd low flags) = false
+commandOn cc (analogue bytes) = false
+commandOn cc faulty = false
+
+-- on either channel
+abbrev pub isCommand : Frame → Bool
+isCommand f = commandOn cdmuA f || commandOn cdmuB f
+
+abbrev pub pollOn : Channel → Frame → Bool
+pollOn cc (broadcast dd time altitude spin phase) = false
+pollOn cc (command dd id sequence parameters) = false
+pollOn cc (tick r) = false
+pollOn cc (sample s x) = false
+pollOn cc (poll dd) = sameChannel cc dd
+pollOn cc (status dd low flags) = false
+pollOn cc (analogue bytes) = false
+pollOn cc faulty = false
+
+-- ---- the numbers of a history
+
+abbrev pub isAccepted : ℕ → Bool
+isAccepted n = eqb n 0
+
+-- "An accepted broadcast raises its count"; "A broadcast refused with 5 raises only its channel's broadcast count."
+abbrev pub raisesBroadcasts : Channel → Frame → ℕ → Bool
+raisesBroadcasts cc f n = broadcastOn cc f && (isAccepted n || eqb n 5)
+
+-- "An accepted command first raises its packet count"; "A command refused with 2, 3, 4 or 7 raises its channel's command packet
+-- count"
+abbrev pub raisesPackets : Channel → Frame → ℕ → Bool
+raisesPackets cc f n = commandOn cc f && (isAccepted n || isError n)
+
+-- "An accepted command first raises .. the command count"
+abbrev pub raisesCommands : Frame → ℕ → Bool
+raisesCommands f n = isCommand f && isAccepted n
+
+-- "that channel's telemetry count .., the count rising afterwards": polls made
+abbrev pub raisesTelemetry : Channel → Frame → ℕ → Bool
+raisesTelemetry cc f n = pollOn cc f && isAccepted n
+
+-- "A command refused with 2, 3, 4 or 7 raises .. the error count"
+abbrev pub raisesErrors : Frame → ℕ → Bool
+raisesErrors f n = isCommand f && isError n
+
+abbrev pub broadcastsOn : Channel → List (Frame × ℕ) → ℕ
+broadcastsOn cc = howMany (raisesBroadcasts cc)
+
+abbrev pub packetsOn : Channel → List (Frame × ℕ) → ℕ
+packetsOn cc = howMany (raisesPackets cc)
+
+abbrev pub commandsIn : List (Frame × ℕ) → ℕ
+commandsIn = howMany raisesCommands
+
+abbrev pub pollsOn : Channel → List (Frame × ℕ) → ℕ
+pollsOn cc = howMany (raisesTelemetry cc)
+
+abbrev pub errorsIn : List (Frame × ℕ) → ℕ
+errorsIn = howMany raisesErrors
+
+-- ---- the packets that were queued
+
+-- The sample with which an open packet is full closes it: its datastream packet.
+unfoldable pub fullPacket : Controller → ℕ → List ℕ → List ℕ
+fullPacket c s x =
+    let o : Open = joinedBy (c .opened s) (stampNow c s) x in
+    datastream (o .stamp) (dataOf s (o .samples))
+
+abbrev pub onlyIf : Bool → ℕ × List ℕ → List (ℕ × List ℕ)
+onlyIf b p = cond b (p ∷ []) []
+
+-- The datastream packets that an accepted frame queues, each with its stream, before it is filled and cut: "0016 send
+-- housekeeping"; "The 448th further tick completes the record: it queues the ring"; "When full, it is .. queued".
+unfoldable pub sent : Controller → Frame → List (ℕ × List ℕ)
+sent c (broadcast cc time altitude spin phase) = []
+sent c (command cc id sequence parameters) =
+    onlyIf (queues (decoded id parameters)) (hk, housekeepingPacket (noted c cc id sequence))
+sent c (tick r) = onlyIf (completes c) (acc-i, impactPacket (taken (c .impact) r))
+sent c (sample s x) = onlyIf (closes c s) (s, fullPacket c s x)
+sent c (poll cc) = []
+sent c (status cc low flags) = []
+sent c (analogue bytes) = []
+sent c faulty = []
+
+-- those of one call: a refused one queues none
+unfoldable pub sentAt : Controller → Call → List (ℕ × List ℕ)
+sentAt c x = cond (isAccepted (step c (x .bytes) (x .room) .reply)) (sent c (frameOf (x .bytes))) []
+
+-- those of a run, in order
+unfoldable pub sentBy : Controller → List Call → List (ℕ × List ℕ)
+sentBy c [] = []
+sentBy c (x ∷ xs) = sentAt c x ++ sentBy (step c (x .bytes) (x .room) .next) xs
+
+-- the pieces of stream t among them, by the packets' streams alone
+abbrev pub piecesOf : ℕ → List (ℕ × List ℕ) → ℕ
+piecesOf t [] = 0
+piecesOf t (p ∷ ps) = cond (eqb (p .0) t) (pieces t) 0 + piecesOf t ps
+
+-- ---- what they do to queue and counts
+
+-- "Each piece takes its stream's count when queued": the pieces of packets that are queued one after the other, numbered from the
+-- streams' counts on, and the counts that follow. How a number goes on is a parameter, as it is of `numbered`.
+unfoldable pub countsAfter : (ℕ → ℕ) → (ℕ → ℕ) → List (ℕ × List ℕ) → ℕ → ℕ
+countsAfter on counts [] = counts
+countsAfter on counts (p ∷ ps) =
+    let s : ℕ = p .0 in
+    countsAfter on (put counts s (after on (counts s) (cut (pieces s) (p .1)))) ps
+
+unfoldable pub numberedAll : (ℕ → ℕ) → (ℕ → ℕ) → List (ℕ × List ℕ) → List (Piece (List ℕ))
+numberedAll on counts [] = []
+numberedAll on counts (p ∷ ps) =
+    let s : ℕ = p .0 in
+    numbered on s (counts s) (cut (pieces s) (p .1))
+    ++ numberedAll on (put counts s (after on (counts s) (cut (pieces s) (p .1)))) ps
+
+-- what an accepted frame leaves of the pieces that waited: a poll takes the first, and "waiting pieces of named streams go"
+abbrev pub spares : Decoded → List (Piece (List ℕ)) → List (Piece (List ℕ))
+spares (request (clear mask)) q = without (names mask) q
+spares (request housekeeping) q = q
+spares (request (setMode value)) q = q
+spares (refusal n) q = q
+
+abbrev pub stillWaiting : Frame → List (Piece (List ℕ)) → List (Piece (List ℕ))
+stillWaiting (broadcast cc time altitude spin phase) q = q
+stillWaiting (command cc id sequence parameters) q = spares (decoded id parameters) q
+stillWaiting (tick r) q = q
+stillWaiting (sample s x) q = q
+stillWaiting (poll cc) q = drop 1 q
+stillWaiting (status cc low flags) q = q
+stillWaiting (analogue bytes) q = q
+stillWaiting faulty q = q
+
+-- the same of a call: a refused one leaves the queue as it is
+unfoldable pub stillWaitingAt : Controller → Call → List (Piece (List ℕ))
+stillWaitingAt c x = cond (isAccepted (step c (x .bytes) (x .room) .reply)) (stillWaiting (frameOf (x .bytes)) (c .queue)) (c .queue)

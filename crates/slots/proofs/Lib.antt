@@ -1,0 +1,2 @@
+-- One turn of each loop.
+pub mod Steps

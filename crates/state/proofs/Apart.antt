@@ -1,0 +1,361 @@
+-- What a store elsewhere leaves of the controller that lent bytes hold: each part of it depends on its own bytes alone.
+-- `..-same` says it of two lists that agree there, `..-apart` of a run that is stored before or after. Assumes nothing.
+use mathlib.Core.Path.{_≡_, refl, sym, ap, _∙_, subst, fun-ext}
+use mathlib.Core.Bool.{Bool, true, false, cond}
+use mathlib.Core.List.{List, map}
+use mathlib.Core.Logic.{_⊎_, inl, inr, ⊎-elim}
+use Prim.{Dec, yes, no}
+use Prim.Native.Nat.{ℕ, zero, suc, _+_, _-_, _*_, _/_, _%_, _≤_, _<_}
+use native.Mathlib.Nat.{add-assoc, add-zero, suc-mul}
+use native.Mathlib.Decide.{decLt}
+use native.Mathlib.Omega.{arith}
+use lib.Dec.{eqb, leb, ltb}
+use lib.ListN.{length, drop, getD}
+use lib.Seq.{drop-drop}
+use borrow.Author.Tests.{ltb-true, eqb-true}
+use Rattle.wire.specs.Wire.{be16, be24, part, put}
+use Rattle.wire.proofs.Runs.{part-ext, length-put, getD-put-before, getD-put-after}
+use Rattle.impact.specs.Window.{windowOf}
+use Rattle.impact.proofs.Packing.{wordsOf-same}
+use Rattle.paper.specs.Mode.{modeOf}
+use Rattle.paper.specs.Streams.{Row, row, rowOf, den, width}
+use Rattle.paper.specs.Packets.{chunks}
+use Rattle.paper.specs.Queue.{piece}
+use Rattle.paper.specs.Controller.{nothingOpen, withStreams}
+use Rattle.state.specs.Layout.{flagAt, impactTimeAt, impactModeAt, windowAt, placeAt, furtherAt, firstAt, waitingAt, housedAt, streams, countAt, openAt, samplesAt, staysOpen, ringAt, slotsAt, slotAt, stateBytes}
+use Rattle.state.specs.View.{clockIn, standingIn, collectionOf, ringFrom, impactIn, talliesIn, twelve, samplesIn, openOf, openIn, countIn, pieceIn, piecesIn, view}
+use Rattle.state.specs.Range.{Fit}
+
+-- ---- two lists that agree on the bytes from lo to below hi
+
+pub record Same (x y : List ℕ) (lo hi : ℕ) : Type 0 where
+  pub byte : (i : ℕ) → lo ≤ i → i < hi → getD x i 0 ≡ getD y i 0
+
+pub same-refl : (x : List ℕ) (lo hi : ℕ) → Same x x lo hi
+same-refl x lo hi = record { byte = λ i l h. refl }
+
+pub same-sym : {x y : List ℕ} {lo hi : ℕ} → Same x y lo hi → Same y x lo hi
+same-sym p = record { byte = λ i l h. sym (p .byte i l h) }
+
+pub same-trans : {x y z : List ℕ} {lo hi : ℕ} → Same x y lo hi → Same y z lo hi → Same x z lo hi
+same-trans p q = record { byte = λ i l h. p .byte i l h ∙ q .byte i l h }
+
+-- and so on fewer bytes
+pub same-within : {x y : List ℕ} {lo hi : ℕ} (from to : ℕ) → Same x y lo hi → lo ≤ from → to ≤ hi → Same x y from to
+same-within from to p l h = record { byte = λ i a b. p .byte i (omega arith) (omega arith) }
+
+-- a run that ends at or before lo, or begins at or after hi
+abbrev pub Outside : ℕ → List ℕ → ℕ → ℕ → Type 0
+Outside at v lo hi = (at + length v ≤ lo) ⊎ (hi ≤ at)
+
+pub put-same : (s : List ℕ) (at : ℕ) (v : List ℕ) → at + length v ≤ length s → (lo hi : ℕ) → Outside at v lo hi
+    → Same (put s at v) s lo hi
+put-same s at v fits lo hi =
+    ⊎-elim (λ b. record { byte = λ i l h. getD-put-after s at v fits i (omega arith) })
+    (λ b. record { byte = λ i l h. getD-put-before s at v fits i (omega arith) })
+
+-- numbers and parts there
+module _ {x y : List ℕ} {lo hi : ℕ} (p : Same x y lo hi) where
+  pub be16-same : (at : ℕ) → lo ≤ at → at + 1 < hi → be16 x at ≡ be16 y at
+  be16-same at l h = omega (arith, p .byte at l (omega arith), p .byte (at + 1) (omega arith) h)
+
+  pub be24-same : (at : ℕ) → lo ≤ at → at + 2 < hi → be24 x at ≡ be24 y at
+  be24-same at l h =
+      omega (arith, p .byte at l (omega arith), p .byte (at + 1) (omega arith) (omega arith), p .byte (at + 2) (omega arith) h)
+
+  pub part-same : (i m : ℕ) → lo ≤ i → i + m ≤ hi → i + m ≤ length x → i + m ≤ length y → part x i m ≡ part y i m
+  part-same i m l h a b = part-ext x y i m a b (λ j c. p .byte (i + j) (omega arith) (omega arith))
+
+  -- chunks of a drop depend on the bytes that they read
+  pub chunks-same : (w n i : ℕ) → lo ≤ i → i + n * w ≤ hi → i + n * w ≤ length x → i + n * w ≤ length y
+      → chunks w n (drop i x) ≡ chunks w n (drop i y)
+  chunks-same w zero i l h a b = refl
+  chunks-same w (suc n) i l h a b =
+      let e : i + suc n * w ≡ i + w + n * w = rw (suc-mul n w) (omega arith) in
+      let head : part x i w ≡ part y i w = part-same i w l (omega arith) (omega arith) (omega arith) in
+      let rest : chunks w n (drop (i + w) x) ≡ chunks w n (drop (i + w) y) =
+      chunks-same w n (i + w) (omega arith) (omega arith) (omega arith) (omega arith) in
+      rw (head, drop-drop w i x, drop-drop w i y, rest)
+
+-- ---- each part depends on its own bytes
+
+module _ (x y : List ℕ) where
+  pub clock-same : Same x y 0 8 → clockIn x ≡ clockIn y
+  unfolding clockIn
+  clock-same p i =
+      record {
+        time = be16-same p 0 (omega arith) (omega arith) i;
+        altitude = be16-same p 2 (omega arith) (omega arith) i;
+        spin = p .byte 4 (omega arith) (omega arith) i;
+        phase = p .byte 5 (omega arith) (omega arith) i;
+        m = be16-same p 6 (omega arith) (omega arith) i;
+      }
+
+  pub standing-same : Same x y 8 17 → standingIn x ≡ standingIn y
+  unfolding standingIn
+  standing-same p i =
+      record {
+        mode = modeOf (p .byte 8 (omega arith) (omega arith) i % 8);
+        locked = leb 8 (p .byte 8 (omega arith) (omega arith) i);
+        entry =
+            record {
+              time = be24-same p 9 (omega arith) (omega arith) i;
+              altitude = be16-same p 13 (omega arith) (omega arith) i;
+              old = p .byte 12 (omega arith) (omega arith) i;
+            };
+        reference = be16-same p 15 (omega arith) (omega arith) i;
+      }
+
+  -- the ring from a place in it
+  pub ring-same : (place : ℕ) → place ≤ 512 → Same x y ringAt slotsAt → ringFrom x place ≡ ringFrom y place
+  unfolding ringFrom
+  ring-same place h p =
+      let newer = wordsOf-same x (ringAt + 2 * place) y (ringAt + 2 * place) (512 - place)
+      (λ j b. p .byte (ringAt + 2 * place + j) (omega arith) (omega arith)) in
+      let older = wordsOf-same x ringAt y ringAt place (λ j b. p .byte (ringAt + j) (omega arith) (omega arith)) in
+      rw (newer, older)
+
+  pub impact-same : be16 x placeAt ≤ 512 → Same x y 17 27 → Same x y ringAt slotsAt → impactIn x ≡ impactIn y
+  unfolding impactIn
+  impact-same h p r =
+      let place = be16-same p placeAt (omega arith) (omega arith) in
+      let ring : ringFrom x (be16 x placeAt) ≡ ringFrom y (be16 y placeAt) =
+      ring-same (be16 x placeAt) h r ∙ ap (ringFrom y) place in
+      λ i.
+      record {
+        flag = eqb (p .byte flagAt (omega arith) (omega arith) i) 1;
+        stamp =
+            record {
+              time = be24-same p impactTimeAt (omega arith) (omega arith) i;
+              mode = p .byte impactModeAt (omega arith) (omega arith) i;
+            };
+        window = windowOf (p .byte windowAt (omega arith) (omega arith) i);
+        ring = ring i;
+        collection = collectionOf (be16-same p furtherAt (omega arith) (omega arith) i);
+      }
+
+  pub tallies-same : Same x y 27 45 → talliesIn x ≡ talliesIn y
+  unfolding talliesIn
+  tallies-same p i =
+      record {
+        broadcasts =
+            record { a = be16-same p 29 (omega arith) (omega arith) i; b = be16-same p 31 (omega arith) (omega arith) i };
+        packets = record { a = be16-same p 33 (omega arith) (omega arith) i; b = be16-same p 35 (omega arith) (omega arith) i };
+        telemetry =
+            record { a = be16-same p 37 (omega arith) (omega arith) i; b = be16-same p 39 (omega arith) (omega arith) i };
+        commands = be16-same p 27 (omega arith) (omega arith) i;
+        errors = p .byte 41 (omega arith) (omega arith) i;
+        code = p .byte 42 (omega arith) (omega arith) i;
+        sequence = p .byte 43 (omega arith) (omega arith) i;
+        id = p .byte 44 (omega arith) (omega arith) i;
+      }
+
+  -- past the last stream there is no count
+  pub count-where : (t : ℕ) → (t < streams → Same x y (countAt t) (countAt t + 2)) → countIn x t ≡ countIn y t
+  unfolding countIn
+  count-where t p = at (ltb t streams) refl
+    where
+      at : (b : Bool) → ltb t streams ≡ b → cond b (be16 x (countAt t) % 4096) 0 ≡ cond b (be16 y (countAt t) % 4096) 0
+      at true e =
+          ap (λ (n : ℕ). n % 4096) (be16-same (p (ltb-true t streams e)) (countAt t) (omega arith) (omega arith))
+      at false e = refl
+
+  pub count-same : (t : ℕ) → Same x y (countAt t) (countAt t + 2) → countIn x t ≡ countIn y t
+  count-same t p = count-where t (λ l. p)
+
+  pub counts-same : Same x y (countAt 0) (openAt 0) → countIn x ≡ countIn y
+  counts-same p =
+      fun-ext (λ t. count-where t (λ l. same-within (countAt t) (countAt t + 2) p (omega arith) (omega arith)))
+
+-- ---- open packets: streams whose packets stay open have room for their samples
+
+-- what holds of each row of the table, and of a stream without one, holds of every stream's row
+pub by-row : (P : ℕ → Row → Type 0) → P 0x2 (row 0x2 7 776 0 0) → P 0x4 (row 0x4 1 116 36 3) → P 0x5 (row 0x5 1 116 72 2)
+    → P 0x6 (row 0x6 1 116 36 3) → P 0x9 (row 0x9 1 116 18 6) → P 0xA (row 0xA 1 118 0 0) → P 0xB (row 0xB 5 520 1 512)
+    → ((t : ℕ) → P t (row t 0 0 0 0)) → (t : ℕ) → P t (rowOf t)
+unfolding rowOf
+by-row P p2 p4 p5 p6 p9 pa pb none t =
+    at (row 0x2 7 776 0 0) _ (eqb t 0x2) refl p2
+    (at (row 0x4 1 116 36 3) _ (eqb t 0x4) refl p4
+    (at (row 0x5 1 116 72 2) _ (eqb t 0x5) refl p5
+    (at (row 0x6 1 116 36 3) _ (eqb t 0x6) refl p6
+    (at (row 0x9 1 116 18 6) _ (eqb t 0x9) refl p9
+    (at (row 0xA 1 118 0 0) _ (eqb t 0xA) refl pa (at (row 0xB 5 520 1 512) _ (eqb t 0xB) refl pb (none t)))))))
+  where
+    at : (r rest : Row) (b : Bool) → eqb t (r .stream) ≡ b → P (r .stream) r → P t rest → P t (cond b r rest)
+    at r rest true e p q = subst (λ (n : ℕ). P n r) (sym (eqb-true t (r .stream) e)) p
+    at r rest false e p q = q
+
+not-both : false ≡ true → ⊥
+not-both h = let z : _≡_ {A = ℕ} 0 1 = cc in omega arith
+
+pub open-room : (s : List ℕ) → Fit s → (t : ℕ) → staysOpen t ≡ true → (t < streams) × (getD s (openAt t) 0 * width t ≤ 145)
+open-room s f =
+    by-row (λ t r. ltb 1 (r .samples) ≡ true → (t < streams) × (getD s (openAt t) 0 * r .width ≤ 145)) (λ h. absurd (not-both h))
+    (λ h. (omega arith, omega arith)) (λ h. (omega arith, omega arith)) (λ h. (omega arith, omega arith))
+    (λ h. (omega arith, omega arith)) (λ h. absurd (not-both h)) (λ h. absurd (not-both h)) (λ t h. absurd (not-both h))
+
+module _ (x y : List ℕ) (fit : Fit x) (whole : stateBytes ≤ length y) where
+  openOf-same : (t n : ℕ) → t < streams → n * width t ≤ 145 → Same x y (openAt t) (openAt t + 150) → openOf x t n ≡ openOf y t n
+  unfolding samplesIn
+  openOf-same t zero l h p = refl
+  openOf-same t (suc n) l h p =
+      let samples = chunks-same p (width t) (suc n) (samplesAt t) (omega arith) (omega arith) (omega arith) (omega arith) in
+      λ i.
+      record {
+        stamp =
+            record {
+              time = be24-same p (openAt t + 1) (omega arith) (omega arith) i;
+              mode = p .byte (openAt t + 4) (omega arith) (omega arith) i;
+            };
+        samples = cond (eqb t den) (map twelve (samples i)) (samples i);
+      }
+
+  -- where packets of stream t stay open, the bytes that hold one agree
+  pub open-where : (t : ℕ) → (t < streams → Same x y (openAt t) (openAt t + 150)) → openIn x t ≡ openIn y t
+  unfolding openIn
+  open-where t p = at (staysOpen t) refl
+    where
+      at : (b : Bool) → staysOpen t ≡ b
+          → cond b (openOf x t (getD x (openAt t) 0)) nothingOpen ≡ cond b (openOf y t (getD y (openAt t) 0)) nothingOpen
+      at true e =
+          let room = open-room x fit t e in
+          let same = p (room .0) in
+          openOf-same t (getD x (openAt t) 0) (room .0) (room .1) same
+          ∙ ap (openOf y t) (same .byte (openAt t) (omega arith) (omega arith))
+      at false e = refl
+
+  pub open-same : (t : ℕ) → Same x y (openAt t) (openAt t + 150) → openIn x t ≡ openIn y t
+  open-same t p = open-where t (λ l. p)
+
+  pub opened-same : Same x y (openAt 0) ringAt → openIn x ≡ openIn y
+  opened-same p =
+      fun-ext (λ t. open-where t (λ l. same-within (openAt t) (openAt t + 150) p (omega arith) (omega arith)))
+
+-- ---- pieces in slots, and the bytes of the last frame 07
+
+module _ (x y : List ℕ) (wx : stateBytes ≤ length x) (wy : stateBytes ≤ length y) where
+  pub housed-same : Same x y housedAt (housedAt + 58) → part x housedAt 58 ≡ part y housedAt 58
+  housed-same p = part-same p housedAt 58 (omega arith) (omega arith) (omega arith) (omega arith)
+
+  pub piece-same : (j : ℕ) → j < 48 → Same x y (slotAt j) (slotAt j + 120) → pieceIn x j ≡ pieceIn y j
+  piece-same j l p =
+      let tag = be16-same p (slotAt j) (omega arith) (omega arith) in
+      let body = part-same p (slotAt j + 2) 118 (omega arith) (omega arith) (omega arith) (omega arith) in
+      λ i. piece (tag i % 16) (tag i / 16) (body i)
+
+  pub pieces-same : (i n : ℕ) → ((k : ℕ) → k < n → Same x y (slotAt ((i + k) % 48)) (slotAt ((i + k) % 48) + 120))
+      → piecesIn x i n ≡ piecesIn y i n
+  unfolding piecesIn
+  pieces-same i zero p = refl
+  pieces-same i (suc n) p =
+      let here = piece-same (i % 48) (omega arith) (rw add-zero at (p 0 (omega arith))) in
+      let rest = pieces-same (i + 1) n (λ k h. rw (add-assoc i 1 k) (p (1 + k) (omega arith))) in
+      rw (here, rest)
+
+-- ---- the whole view
+
+-- bytes that agree everywhere but in the queue's numbers, the streams' counts, the open packets and the slots
+pub streams-same : (x y : List ℕ) → Fit y → stateBytes ≤ length x → Same x y 0 firstAt → Same x y housedAt (countAt 0)
+    → Same x y ringAt slotsAt
+    → view x ≡ withStreams (view y) (openIn x) (countIn x) (piecesIn x (getD x firstAt 0) (getD x waitingAt 0))
+unfolding view
+streams-same x y f w p q r i =
+    record {
+      clock = clock-same x y (same-within 0 8 p (omega arith) (omega arith)) i;
+      standing = standing-same x y (same-within 8 17 p (omega arith) (omega arith)) i;
+      impact =
+          impact-same x y (omega (arith, be16-same p placeAt (omega arith) (omega arith)))
+          (same-within 17 27 p (omega arith) (omega arith)) r i;
+      tallies = tallies-same x y (same-within 27 45 p (omega arith) (omega arith)) i;
+      housed = housed-same x y w (f .whole) q i;
+      opened = openIn x;
+      counts = countIn x;
+      queue = piecesIn x (getD x firstAt 0) (getD x waitingAt 0);
+    }
+
+-- ---- ranges
+
+-- bytes in range stay so where the first bytes agree, and the queue's numbers and the open packets' are in range
+pub fit-same : (x y : List ℕ) → Fit y → stateBytes ≤ length x → Same x y 0 firstAt → getD x firstAt 0 < 48
+    → getD x waitingAt 0 ≤ 48
+    → ((t : ℕ) → t < streams → (getD x (openAt t) 0 ≡ getD y (openAt t) 0) ⊎ (getD x (openAt t) 0 ≡ 0)) → Fit x
+fit-same x y f w p first waiting opens =
+    record {
+      whole = w;
+      m = omega (arith, be16-same p 6 (omega arith) (omega arith));
+      nibble = omega (arith, p .byte 8 (omega arith) (omega arith));
+      flag = omega (arith, p .byte 17 (omega arith) (omega arith));
+      window = omega (arith, p .byte 22 (omega arith) (omega arith));
+      place = omega (arith, be16-same p 23 (omega arith) (omega arith));
+      further = omega (arith, be16-same p 25 (omega arith) (omega arith));
+      first = first;
+      waiting = waiting;
+      open4 = below 4 36 (omega arith) (omega arith) (omega arith);
+      open5 = below 5 72 (omega arith) (omega arith) (omega arith);
+      open6 = below 6 36 (omega arith) (omega arith) (omega arith);
+      open9 = below 9 18 (omega arith) (omega arith) (omega arith);
+    }
+  where
+    below : (t n : ℕ) → t < streams → 0 < n → getD y (openAt t) 0 < n → getD x (openAt t) 0 < n
+    below t n l z b = ⊎-elim (λ e. omega arith) (λ e. omega arith) (opens t l)
+
+-- ---- a run that is stored elsewhere
+
+module _ (s : List ℕ) (at : ℕ) (v : List ℕ) (fits : at + length v ≤ length s) (whole : stateBytes ≤ length s) where
+  still : stateBytes ≤ length (put s at v)
+  still = omega (arith, length-put s at v fits)
+
+  pub clock-apart : 8 ≤ at → clockIn (put s at v) ≡ clockIn s
+  clock-apart h = clock-same (put s at v) s (put-same s at v fits 0 8 (inr h))
+
+  pub standing-apart : Outside at v 8 17 → standingIn (put s at v) ≡ standingIn s
+  standing-apart h = standing-same (put s at v) s (put-same s at v fits 8 17 h)
+
+  -- the ring's oldest place says where it is read from: it is in range
+  pub impact-apart : be16 s placeAt < 512 → Outside at v 17 27 → Outside at v ringAt slotsAt
+      → impactIn (put s at v) ≡ impactIn s
+  impact-apart b h r =
+      sym
+      (impact-same s (put s at v) (omega arith) (same-sym (put-same s at v fits 17 27 h))
+      (same-sym (put-same s at v fits ringAt slotsAt r)))
+
+  pub tallies-apart : Outside at v 27 45 → talliesIn (put s at v) ≡ talliesIn s
+  tallies-apart h = tallies-same (put s at v) s (put-same s at v fits 27 45 h)
+
+  pub first-apart : Outside at v firstAt waitingAt → getD (put s at v) firstAt 0 ≡ getD s firstAt 0
+  first-apart h = put-same s at v fits firstAt waitingAt h .byte firstAt (omega arith) (omega arith)
+
+  pub waiting-apart : Outside at v waitingAt housedAt → getD (put s at v) waitingAt 0 ≡ getD s waitingAt 0
+  waiting-apart h = put-same s at v fits waitingAt housedAt h .byte waitingAt (omega arith) (omega arith)
+
+  pub housed-apart : Outside at v housedAt (countAt 0) → part (put s at v) housedAt 58 ≡ part s housedAt 58
+  housed-apart h = housed-same (put s at v) s still whole (put-same s at v fits housedAt (countAt 0) h)
+
+  pub count-apart : (t : ℕ) → Outside at v (countAt t) (countAt t + 2) → countIn (put s at v) t ≡ countIn s t
+  count-apart t h = count-same (put s at v) s t (put-same s at v fits (countAt t) (countAt t + 2) h)
+
+  pub counts-apart : Outside at v (countAt 0) (openAt 0) → countIn (put s at v) ≡ countIn s
+  counts-apart h = counts-same (put s at v) s (put-same s at v fits (countAt 0) (openAt 0) h)
+
+  pub open-apart : Fit s → (t : ℕ) → Outside at v (openAt t) (openAt t + 150) → openIn (put s at v) t ≡ openIn s t
+  open-apart f t h = sym (open-same s (put s at v) f still t (same-sym (put-same s at v fits (openAt t) (openAt t + 150) h)))
+
+  pub opened-apart : Fit s → Outside at v (openAt 0) ringAt → openIn (put s at v) ≡ openIn s
+  opened-apart f h = sym (opened-same s (put s at v) f still (same-sym (put-same s at v fits (openAt 0) ringAt h)))
+
+  -- a store below the slots leaves every piece
+  pub pieces-apart : at + length v ≤ slotsAt → (i n : ℕ) → piecesIn (put s at v) i n ≡ piecesIn s i n
+  pieces-apart h i n = pieces-same (put s at v) s still whole i n (λ k b. put-same s at v fits _ _ (inl (omega arith)))
+
+-- a store into slot j leaves the n pieces from slot i on where j is none of theirs
+pub pieces-apart-slot : (s : List ℕ) (j : ℕ) (v : List ℕ) → j < 48 → length v ≡ 120 → stateBytes ≤ length s → (i n : ℕ)
+    → ((k : ℕ) → k < n → (i + k) % 48 ≡ j → ⊥) → piecesIn (put s (slotAt j) v) i n ≡ piecesIn s i n
+pieces-apart-slot s j v l e whole i n other =
+    let fits : slotAt j + length v ≤ length s = omega arith in
+    pieces-same (put s (slotAt j) v) s (omega (arith, length-put s (slotAt j) v fits)) whole i n
+    (λ k b. put-same s (slotAt j) v fits _ _ (beside ((i + k) % 48) (decLt ((i + k) % 48) j) (other k b)))
+  where
+    beside : (q : ℕ) → Dec (q < j) → (q ≡ j → ⊥) → Outside (slotAt j) v (slotAt q) (slotAt q + 120)
+    beside q (yes h) d = inr (omega arith)
+    beside q (no h) d = inl (omega arith)

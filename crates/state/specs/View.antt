@@ -1,0 +1,112 @@
+-- The controller that lent bytes hold.
+-- Assumes nothing.
+use mathlib.Core.Bool.{Bool, true, false, cond}
+use mathlib.Core.List.{List, [], _∷_, _++_, map}
+use Prim.Native.Nat.{ℕ, zero, suc, _+_, _-_, _*_, _/_, _%_}
+use lib.Dec.{eqb, leb, ltb}
+use lib.ListN.{getD, drop}
+use Rattle.wire.specs.Wire.{be16, be24, bytes16, part}
+use Rattle.impact.specs.Window.{windowOf}
+use Rattle.impact.specs.Words.{wordsOf}
+use Rattle.paper.specs.Frames.{Channel, cdmuA, cdmuB}
+use Rattle.paper.specs.Clock.{Clock}
+use Rattle.paper.specs.Mode.{modeOf, Standing}
+use Rattle.paper.specs.Impact.{Impact, Stamp, Collection, idle, running}
+use Rattle.paper.specs.Streams.{den, width}
+use Rattle.paper.specs.Packets.{chunks}
+use Rattle.paper.specs.Queue.{Piece, piece}
+use Rattle.paper.specs.Controller.{Both, Tallies, Open, nothingOpen, Controller}
+use Rattle.state.specs.Layout.{timeAt, altitudeAt, spinAt, phaseAt, mAt, nibbleAt, entryTimeAt, oldAt, entryAltitudeAt, referenceAt, flagAt, impactTimeAt, impactModeAt, windowAt, placeAt, furtherAt, commandsAt, broadcastsAt, packetsAt, telemetryAt, errorsAt, codeAt, sequenceAt, idAt, firstAt, waitingAt, housedAt, streams, countAt, openAt, samplesAt, staysOpen, ringAt, slotAt}
+
+unfoldable pub clockIn : List ℕ → Clock
+clockIn s =
+    record { time = be16 s timeAt; altitude = be16 s altitudeAt; spin = getD s spinAt 0; phase = getD s phaseAt 0; m = be16 s mAt }
+
+unfoldable pub standingIn : List ℕ → Standing
+standingIn s =
+    record {
+      mode = modeOf (getD s nibbleAt 0 % 8);
+      locked = leb 8 (getD s nibbleAt 0);
+      entry = record { time = be24 s entryTimeAt; altitude = be16 s entryAltitudeAt; old = getD s oldAt 0 };
+      reference = be16 s referenceAt;
+    }
+
+abbrev pub collectionOf : ℕ → Collection
+collectionOf zero = idle
+collectionOf (suc k) = running k
+
+-- the readings from the oldest place to the ring's end, then from its start
+unfoldable pub ringFrom : List ℕ → ℕ → List ℕ
+ringFrom s place = wordsOf s (ringAt + 2 * place) (512 - place) ++ wordsOf s ringAt place
+
+unfoldable pub impactIn : List ℕ → Impact
+impactIn s =
+    record {
+      flag = eqb (getD s flagAt 0) 1;
+      stamp = record { time = be24 s impactTimeAt; mode = getD s impactModeAt 0 };
+      window = windowOf (getD s windowAt 0);
+      ring = ringFrom s (be16 s placeAt);
+      collection = collectionOf (be16 s furtherAt);
+    }
+
+abbrev pub bothIn : List ℕ → (Channel → ℕ) → Both
+bothIn s at = record { a = be16 s (at cdmuA); b = be16 s (at cdmuB) }
+
+unfoldable pub talliesIn : List ℕ → Tallies
+talliesIn s =
+    record {
+      broadcasts = bothIn s broadcastsAt;
+      packets = bothIn s packetsAt;
+      telemetry = bothIn s telemetryAt;
+      commands = be16 s commandsAt;
+      errors = getD s errorsAt 0;
+      code = getD s codeAt 0;
+      sequence = getD s sequenceAt 0;
+      id = getD s idAt 0;
+    }
+
+-- a DEN sample: two bytes, of whose number twelve bits count
+abbrev pub twelve : List ℕ → List ℕ
+twelve x = bytes16 (be16 x 0 % 4096)
+
+-- n samples of stream t, as they came
+unfoldable pub samplesIn : List ℕ → ℕ → ℕ → List (List ℕ)
+samplesIn s t n =
+    cond (eqb t den) (map twelve (chunks (width t) n (drop (samplesAt t) s))) (chunks (width t) n (drop (samplesAt t) s))
+
+-- the open packet of stream t, which has n samples
+abbrev pub openOf : List ℕ → ℕ → ℕ → Open
+openOf s t zero = nothingOpen
+openOf s t (suc n) =
+    record {
+      stamp = record { time = be24 s (openAt t + 1); mode = getD s (openAt t + 4) 0 };
+      samples = samplesIn s t (suc n);
+    }
+
+unfoldable pub openIn : List ℕ → ℕ → Open
+openIn s t = cond (staysOpen t) (openOf s t (getD s (openAt t) 0)) nothingOpen
+
+-- "modulo 4096": the count that the next piece of stream t takes
+unfoldable pub countIn : List ℕ → ℕ → ℕ
+countIn s t = cond (ltb t streams) (be16 s (countAt t) % 4096) 0
+
+abbrev pub pieceIn : List ℕ → ℕ → Piece (List ℕ)
+pieceIn s i = piece (be16 s (slotAt i) % 16) (be16 s (slotAt i) / 16) (part s (slotAt i + 2) 118)
+
+-- n pieces from slot i on, past the last slot from slot 0
+unfoldable pub piecesIn : List ℕ → ℕ → ℕ → List (Piece (List ℕ))
+piecesIn s i zero = []
+piecesIn s i (suc n) = pieceIn s (i % 48) ∷ piecesIn s (i + 1) n
+
+unfoldable pub view : List ℕ → Controller
+view s =
+    record {
+      clock = clockIn s;
+      standing = standingIn s;
+      impact = impactIn s;
+      tallies = talliesIn s;
+      housed = part s housedAt 58;
+      opened = openIn s;
+      counts = countIn s;
+      queue = piecesIn s (getD s firstAt 0) (getD s waitingAt 0);
+    }
