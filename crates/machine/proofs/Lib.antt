@@ -14,3 +14,4 @@ pub mod Polls
 pub mod Fresh
 pub mod Past
 pub mod Steps
+pub mod Joins

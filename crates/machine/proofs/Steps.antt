@@ -18,6 +18,8 @@ use Rattle.paper.specs.Controller.{Controller, start}
 use Rattle.paper.specs.Acts.{moved, noted, obeyed, performed, accepted, answer}
 use Rattle.paper.specs.Step.{holds, reply, isError, queues, lateHeard, erred, refused, Outcome, outcome, replied, step}
 use Rattle.paper.specs.Runs.{Call, call, runs}
+use Rattle.paper.specs.History.{history, sentBy}
+use Rattle.paper.proofs.History.{Counted, counted}
 use Rattle.paper.proofs.Shapes.{Rows, through}
 use Rattle.paper.proofs.Refusals.{Passed, passed}
 use Rattle.state.specs.Layout.{stateBytes, housedAt, waitingAt, broadcastsAt}
@@ -242,3 +244,13 @@ module _ (s : List ℕ) (whole : stateBytes ≤ length s) (xs : List (List ℕ �
   started-steps f o b =
       subst (λ (c : Controller). Agrees (stepOf (runOf (startedOn s) xs) f o) (step c f (length o)) o) (started-runs .0)
       (steps (runOf (startedOn s) xs) f o (started-runs .1) b)
+
+-- ---- claims on runs, of calls
+
+-- Counts of bytes that a fresh start and later calls left are the numbers of the history: broadcasts, command packets, polls and
+-- commands modulo 65536, errors modulo 256, each stream's pieces ever queued modulo 4096.
+pub started-counts : (s : List ℕ) → stateBytes ≤ length s → (xs : List (List ℕ × List ℕ)) → Framed xs
+    → Counted (view (runOf (startedOn s) xs)) (history start (calls xs)) (sentBy start (calls xs))
+started-counts s whole xs h =
+    subst (λ (c : Controller). Counted c (history start (calls xs)) (sentBy start (calls xs))) (sym (started-runs s whole xs h .0))
+    (counted (calls xs))

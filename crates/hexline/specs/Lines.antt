@@ -1,0 +1,66 @@
+-- Lines of a stream of bytes: what is kept of a line while it comes in, where it ends, and the frame that it stands for.
+-- Assumes nothing.
+use Prim.Native.Nat.{ℕ, _+_, _*_, _≤_, _<_}
+use mathlib.Core.Bool.{false, cond}
+use mathlib.Core.Path.{_≡_}
+use mathlib.Core.List.{List, [], _∷_, _++_}
+use lib.Dec.{leb, ltb, eqb}
+use lib.ListN.{take, drop, length}
+use Rattle.hexline.specs.declared.Gathered.{Gathered}
+use Rattle.hexline.specs.Hex.{Read, bytes, faulty, readHex}
+
+-- "at most 1,028 digits"
+abbrev pub longest : ℕ
+longest = 1028
+
+-- a line so far: its characters, or that there were more than `longest`
+pub data Line : Type 0 where
+  kept : List ℕ → Line
+  over : Line
+
+-- one character more
+abbrev pub more : Line → ℕ → Line
+more (kept l) c = cond (ltb (length l) longest) (kept (l ++ (c ∷ []))) over
+more over c = over
+
+-- what a count and a buffer hold: the count `longest + 1` stands for any line that is too long
+abbrev pub lineOf : ℕ → List ℕ → Line
+lineOf n buf = cond (leb n longest) (kept (take n buf)) over
+
+-- the buffers that a line of n characters needs: one for its characters, and one for its frame
+pub record Buffers (n : ℕ) (line frame : List ℕ) : Type 0 where
+  pub small : n ≤ longest + 1
+  pub line-size : length line ≡ longest
+  pub frame-size : longest ≤ 2 * length frame
+
+-- what comes of a line so far and a piece of input: the line, ended by an LF, and the input after it, or the line still open
+pub data Scan : Type 0 where
+  ended : Line → List ℕ → Scan
+  partly : Line → Scan
+
+unfoldable pub scan : Line → List ℕ → Scan
+scan l [] = partly l
+scan l (c ∷ rest) = cond (eqb c 10) (ended l rest) (scan (more l c) rest)
+
+-- what an answer says of the buffer and the chunk
+abbrev pub gathered : Gathered → List ℕ → List ℕ → Scan
+gathered g buf chunk = cond (g .ended) (ended (lineOf (g .n) buf) (drop (g .at) chunk)) (partly (lineOf (g .n) buf))
+
+-- where a scan from `from` of a chunk of that length stopped: past where it began unless that was the end, and at the end
+-- unless at an LF
+pub record Stopped (from size : ℕ) (g : Gathered) : Type 0 where
+  pub within : g .at ≤ size
+  pub small : g .n ≤ longest + 1
+  pub forth : from ≤ g .at
+  pub onward : from < size → from < g .at
+  pub whole : g .ended ≡ false → g .at ≡ size
+
+-- the bytes that a text stands for, none where it is faulty
+abbrev pub bytesOr : Read → List ℕ
+bytesOr (bytes xs) = xs
+bytesOr faulty = []
+
+-- "A faulty or over-long line counts as an empty frame."
+abbrev pub frameOf : Line → List ℕ
+frameOf (kept l) = bytesOr (readHex l)
+frameOf over = []

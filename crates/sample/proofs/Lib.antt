@@ -1,0 +1,3 @@
+-- The laws that the proofs of this crate lean on.
+-- Assumes nothing.
+pub mod Judged

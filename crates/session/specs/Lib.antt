@@ -1,0 +1,2 @@
+-- What program bench writes for a line.
+pub mod Bench

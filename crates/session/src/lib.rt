@@ -1,0 +1,153 @@
+// The library of program bench, on slices alone: chunks of input go in, and the text of the answers comes out.
+ghost use mathlib.Core.Path.{_≡_};
+ghost use mathlib.Core.List.{[], _∷_, _++_};
+ghost use Prim.Native.Nat.{_+_, _*_, _≤_, _<_};
+ghost use lib.ListN.{length, take};
+ghost use Rattle.hexline.specs.Hex.{hexOf};
+ghost use Rattle.hexline.specs.Lines.{Buffers, lineOf, frameOf};
+ghost use Rattle.hexline.specs.Talk.{lastly};
+ghost use Rattle.session.specs.Bench.{mostText, written, answerTo, toCome, Within};
+
+// How many bytes a frame that got that reply wrote.
+fn count_of(reply: u8, f: &[u8]) -> usize
+    ensures { λ r. ⌜ r ≤ 126 ⌝ }
+    ensures { λ r. ⌜ r ≡ written reply (now (f .entry)) ⌝ }
+{
+    if reply != 0 {
+        return 0;
+    }
+    if f.len() == 0 {
+        return 0;
+    }
+    if f[0] == 5 {
+        return 126;
+    }
+    if f[0] == 6 {
+        return 2;
+    }
+    0
+}
+
+// Appends the line of a reply and bytes.
+fn put_line(reply: u8, bytes: &[u8], out: &mut [u8], used: usize) -> usize
+    requires { ⌜ used + 2 * length (now bytes) + 3 ≤ length (now out) ⌝ }
+    ensures { λ r. ⌜ r ≡ used + 2 * length (now (bytes .entry)) + 3 ⌝ }
+    ensures { λ r. ⌜ take r (now (out .exit)) ≡ take used (now (out .entry)) ++ (hexOf (reply ∷ now (bytes .entry)) ++ (10 ∷ [])) ⌝ }
+{
+    out[used] = hexline::digit(reply / 16);
+    out[used + 1] = hexline::digit(reply % 16);
+    let n = hexline::encode(bytes, out, used + 2);
+    out[n] = 10;
+    n + 1
+}
+
+// Hands a frame to the controller with an output of zeros, and appends the line of what comes of it.
+fn answer(f: &[u8], state: &mut [u8], out: &mut [u8], used: usize) -> usize
+    requires { ⌜ used + mostText ≤ length (now out) ⌝ }
+    ensures { λ r. ⌜ r ≤ length (now (out .entry)) ⌝ }
+    ensures { λ r. ⌜ take r (now (out .exit)) ≡ take used (now (out .entry)) ++ answerTo (now (state .entry)) (now (f .entry)) .text ⌝ }
+    ensures { λ _. ⌜ now (state .exit) ≡ answerTo (now (state .entry)) (now (f .entry)) .state ⌝ }
+{
+    let mut piece = [0u8; 126];
+    let reply = controller::frame(state, f, &mut piece);
+    let n = count_of(reply, f);
+    put_line(reply, &piece[..n], out, used)
+}
+
+// Appends the answer to the line of n characters.
+fn reply(
+    line: &[u8],
+    n: usize,
+    frame: &mut [u8],
+    state: &mut [u8],
+    out: &mut [u8],
+    used: usize,
+) -> usize
+    requires { ⌜ (Buffers n (now line) (now frame)) × (used + mostText ≤ length (now out)) ⌝ }
+    ensures { λ r. ⌜ r ≤ length (now (out .entry)) ⌝ }
+    ensures { λ r. ⌜ take r (now (out .exit)) ≡ take used (now (out .entry)) ++ answerTo (now (state .entry)) (frameOf (lineOf n (now (line .entry)))) .text ⌝ }
+    ensures { λ _. ⌜ now (state .exit) ≡ answerTo (now (state .entry)) (frameOf (lineOf n (now (line .entry)))) .state ⌝ }
+{
+    let k = hexline::frame_of(line, n, frame);
+    answer(&frame[..k], state, out, used)
+}
+
+// Where the work on a chunk stopped: the place in the chunk, the count of the line still open, and the bytes of text.
+pub struct Turn {
+    pub at: usize,
+    pub n: usize,
+    pub used: usize,
+}
+
+// Goes on to the next LF, or to the chunk's end.
+fn one(
+    chunk: &[u8],
+    from: usize,
+    n: usize,
+    line: &mut [u8],
+    frame: &mut [u8],
+    state: &mut [u8],
+    out: &mut [u8],
+    used: usize,
+) -> Turn
+    requires { ⌜ (from ≤ length (now chunk)) × (Buffers n (now line) (now frame)) × (used + mostText ≤ length (now out)) ⌝ }
+    ensures { λ r. ⌜ Within from (length (now (chunk .entry))) used (length (now (out .entry))) r ⌝ }
+    ensures { λ r. ⌜ toCome (r .at) (r .n) (r .used) (now (chunk .entry)) (now (line .exit)) (now (state .exit)) (now (out .exit)) ≡ toCome from n used (now (chunk .entry)) (now (line .entry)) (now (state .entry)) (now (out .entry)) ⌝ }
+{
+    let g = hexline::gather(chunk, from, n, line);
+    let at = g.at;
+    let kept = g.n;
+    if g.ended {
+        let more = reply(line, kept, frame, state, out, used);
+        Turn {
+            at,
+            n: 0,
+            used: more,
+        }
+    } else {
+        Turn { at, n: kept, used }
+    }
+}
+
+// Answers lines until the chunk ends or `out` has no room for one more answer.
+// What is still to come from where it stopped, behind the text that it wrote, is what was to come where it began.
+pub fn fill(
+    chunk: &[u8],
+    from: usize,
+    n: usize,
+    line: &mut [u8],
+    frame: &mut [u8],
+    state: &mut [u8],
+    out: &mut [u8],
+) -> Turn
+    requires { ⌜ (from ≤ length (now chunk)) × (Buffers n (now line) (now frame)) × (mostText ≤ length (now out)) ⌝ }
+    ensures { λ r. ⌜ Within from (length (now (chunk .entry))) 0 (length (now (out .entry))) r ⌝ }
+    ensures { λ r. ⌜ toCome (r .at) (r .n) (r .used) (now (chunk .entry)) (now (line .exit)) (now (state .exit)) (now (out .exit)) ≡ toCome from n 0 (now (chunk .entry)) (now (line .entry)) (now (state .entry)) (now (out .entry)) ⌝ }
+{
+    let mut at = from;
+    let mut k = n;
+    let mut used = 0;
+    while at < chunk.len() {
+        if out.len() - used < 255 {
+            return Turn { at, n: k, used };
+        }
+        let t = one(chunk, at, k, line, frame, state, out, used);
+        at = t.at;
+        k = t.n;
+        used = t.used;
+    }
+    Turn { at, n: k, used }
+}
+
+// At the end of the input: an open line that is not empty is answered.
+pub fn finish(n: usize, line: &[u8], frame: &mut [u8], state: &mut [u8], out: &mut [u8]) -> usize
+    requires { ⌜ (Buffers n (now line) (now frame)) × (mostText ≤ length (now out)) ⌝ }
+    ensures { λ r. ⌜ r ≤ length (now (out .entry)) ⌝ }
+    ensures { λ r. ⌜ take r (now (out .exit)) ≡ lastly answerTo (lineOf n (now (line .entry))) (now (state .entry)) .text ⌝ }
+    ensures { λ _. ⌜ now (state .exit) ≡ lastly answerTo (lineOf n (now (line .entry))) (now (state .entry)) .state ⌝ }
+{
+    if n == 0 {
+        return 0;
+    }
+    reply(line, n, frame, state, out, 0)
+}
