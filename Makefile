@@ -1,4 +1,7 @@
 # make test: the gate. make demo: what there is to see.
+# Programs are compiled for x86-64; elsewhere they run under Debian's qemu-user.
+RUN := $(if $(filter x86_64,$(shell uname -m)),,qemu-x86_64)
+
 .PHONY: all test demo
 
 all:
@@ -7,7 +10,8 @@ all:
 test:
 	.ci/run
 
-# The session of document 01 is computed by the prover on the definitions: a wrong answer in it stops the check.
+# The paper's session through bench; the same session is computed on the definitions by the prover.
 demo:
-	rt check paper
-	@echo "The session of document 01 and its examples marked P hold on the definitions (crates/paper/specs/Examples.antt)."
+	rt check bench
+	@echo "frame -> what the controller says"
+	@$(RUN) target/bin/bench < crates/bench/stdin | paste -d' ' crates/bench/stdin -

@@ -1,6 +1,6 @@
 -- Document 01, the base, as definitions, in its order:
--- Frames; Replies (with the order of testing); Clock and Mode; Impact; Commands; Streams, Packets and Queue; Housekeeping;
--- Status; Controller (the state and what each frame does to it); Step; Reader; and the examples marked P.
+-- Frames; Clock and Mode; Impact; Commands; Streams, Packets and Queue; the Controller's state; Housekeeping; Status; what each
+-- frame does (Acts); the replies in their order, and one call (Step); the Reader; runs and their history; the examples marked P.
 pub mod Frames
 pub mod Clock
 pub mod Mode
