@@ -1,0 +1,159 @@
+-- One call said by bytes alone is the call whose reply and output are document 01's.
+-- Assumes nothing.
+use mathlib.Core.Path.{_≡_, refl, sym, ap, _∙_, subst}
+use mathlib.Core.Bool.{Bool, true, false, cond, _&&_}
+use mathlib.Core.List.{List, [], _∷_, _++_}
+use Prim.Native.Nat.{ℕ, zero, suc, _+_, _-_, _*_, _/_, _%_, _<_}
+use native.Mathlib.Nat.{mod-lt}
+use native.Mathlib.Omega.{arith}
+use lib.Dec.{eqb, ltb}
+use lib.ListN.{length, getD, take, drop, length-drop}
+use lib.Seq.{take-add, take-take}
+use borrow.Author.Tests.{ltb-true, eqb-true}
+use Rattle.wire.specs.Wire.{be16, part, put}
+use Rattle.wire.proofs.Runs.{part-put-after}
+use Rattle.paper.specs.Streams.{pieces, listed, carried}
+use Rattle.paper.specs.Packets.{chunks, joined}
+use Rattle.paper.specs.Queue as Queue
+use Rattle.paper.specs.Reader.{Track, fresh, distance, placed, gathers, moves, arrives, arrive, Packet, packet, notCarried, noPacket, wellFormed, packetOf, sound, Reader, heard, received, understood, readerStep}
+use Rattle.state.specs.Told.{res}
+use Rattle.streams.proofs.Table.{Carried, carried-rules}
+use Rattle.shelf.specs.Layout.{recordAt, placeAt, markAt, gatherAt, pieceAt}
+use Rattle.shelf.specs.View.{trackIn, readerIn}
+use Rattle.shelf.specs.Range.{Fit, fit}
+use Rattle.shelf.specs.Received.{recordOf, recordedOn, gathersOn, movesOn, arrivesOn, arrivedOn, understoodOn, receivedOn, toldOf, readOf}
+use Rattle.shelf.specs.Formed.{handsTo, gathersTo, movesTo, arrivesTo, arrivedTo, understoodTo, formed}
+use Rattle.shelf.proofs.Ranges.{both, fit-true}
+use Rattle.shelf.proofs.Gathered.{piece-snoc, Elsewhere, body-elsewhere, follows}
+use Rattle.shelf.proofs.Packets.{Shaped, shaped, Any}
+
+-- the bytes of pieces side by side
+pub joined-chunks : (n : ℕ) (l : List ℕ) → joined (chunks 118 n l) ≡ take (118 * n) l
+joined-chunks zero l = refl
+joined-chunks (suc n) l =
+    let e : 118 + 118 * n ≡ 118 * suc n = omega arith in
+    ap (λ (r : List ℕ). take 118 l ++ r) (joined-chunks n (drop 118 l))
+    ∙ sym (take-add 118 (118 * n) l)
+    ∙ ap (λ (m : ℕ). take m l) e
+
+module _ (s : List ℕ) (f : Fit s) (t : ℕ) (c : carried t ≡ true) (count : ℕ) (x : List ℕ) (sized : length x ≡ 118) (o : List ℕ) where
+  r : Carried t
+  r = carried-rules t c
+
+  -- the last piece stored, the packet stands in the bytes
+  pub packet-stands : (place : ℕ) → suc place ≡ pieces t
+      → joined (chunks 118 place (drop (gatherAt t) s) ++ (x ∷ []))
+      ≡ part (gathersOn s t true count place x) (gatherAt t) (118 * pieces t)
+  unfolding gathersOn recordedOn
+  packet-stands place e =
+      let few : place < 7 = omega (arith, r .few) in
+      let y : List ℕ = put s (pieceAt t place) x in
+      let body : Elsewhere y s t = body-elsewhere s (f .whole) t (r .small) place x few sized in
+      let snoc : chunks 118 (suc place) (drop (gatherAt t) y) ≡ chunks 118 place (drop (gatherAt t) s) ++ (x ∷ []) =
+      piece-snoc s (gatherAt t) place x sized (omega (arith, r .small, f .whole)) in
+      let apart : part (put y (recordAt t) (recordOf count place 0)) (gatherAt t) (118 * pieces t) ≡ part y (gatherAt t) (118 * pieces t) =
+      part-put-after y (recordAt t) (recordOf count place 0) (omega (arith, r .small, f .whole, body .long)) (gatherAt t) (118 * pieces t)
+      (omega (arith, r .small)) (omega (arith, r .small, r .few, f .whole, body .long)) in
+      ap joined (sym snoc)
+      ∙ joined-chunks (suc place) (drop (gatherAt t) y)
+      ∙ ap (λ (n : ℕ). part y (gatherAt t) (118 * n)) e
+      ∙ sym apart
+
+  gathers-formed : (b : Bool) (place : ℕ) (g : List (List ℕ)) → place < pieces t → eqb place (pieces t - 1) ≡ b
+      → chunks 118 place (drop (gatherAt t) s) ++ (x ∷ []) ≡ g
+      → toldOf (received (readerIn s) t (gathers b count place g)) o (gathersOn s t b count place x) ≡ gathersTo s t b count place x o
+  unfolding received handsTo
+  gathers-formed true place g h l e = rw packet (at (sound t p))
+    where
+      y : List ℕ
+      y = gathersOn s t true count place x
+
+      p : List ℕ
+      p = part y (gatherAt t) (118 * pieces t)
+
+      packet : joined g ≡ p
+      packet = ap joined (sym e) ∙ packet-stands place (omega (arith, eqb-true place (pieces t - 1) l))
+
+      q : Reader
+      q = Queue.put (readerIn s) t (record { last = count; place = place; running = false; gathered = [] })
+
+      front : take (listed t) p ≡ part y (gatherAt t) (listed t)
+      front = take-take (listed t) (118 * pieces t) (drop (gatherAt t) y) (omega (arith, r .fits))
+
+      at : (b : Bool) → toldOf (cond b (heard 1 (take (listed t) p) q) (heard 23 [] q)) o y
+          ≡ cond b (res 1 (put o 0 (part y (gatherAt t) (listed t))) y) (res 23 o y)
+      at true = ap (λ (v : List ℕ). res 1 (put o 0 v) y) front
+      at false = refl
+  gathers-formed false place g h l e = refl
+
+  moves-formed : (d : ℕ) (anew goesOn atLast : Bool) → eqb (placed (pieces t) (getD s (placeAt t) 0) d) 0 ≡ anew
+      → (eqb d 1 && eqb (getD s (markAt t) 0) 1) ≡ goesOn → eqb (placed (pieces t) (getD s (placeAt t) 0) d) (pieces t - 1) ≡ atLast
+      → toldOf
+      (received (readerIn s) t
+      (moves anew goesOn atLast count (placed (pieces t) (getD s (placeAt t) 0) d) (trackIn s t .gathered) x)) o
+      (movesOn s t anew goesOn atLast count (placed (pieces t) (getD s (placeAt t) 0) d) x)
+      ≡ movesTo s t anew goesOn atLast count (placed (pieces t) (getD s (placeAt t) 0) d) x o
+  unfolding received trackIn
+  moves-formed d anew goesOn atLast a g l = at anew goesOn a g
+    where
+      place : ℕ
+      place = placed (pieces t) (getD s (placeAt t) 0) d
+
+      within : place < pieces t
+      within = mod-lt (getD s (placeAt t) 0 + d) (ltb-true 0 (pieces t) c)
+
+      at : (anew goesOn : Bool) → eqb place 0 ≡ anew → (eqb d 1 && eqb (getD s (markAt t) 0) 1) ≡ goesOn
+          → toldOf (received (readerIn s) t (moves anew goesOn atLast count place (trackIn s t .gathered) x)) o
+          (movesOn s t anew goesOn atLast count place x)
+          ≡ movesTo s t anew goesOn atLast count place x o
+      at true goesOn a g =
+          gathers-formed atLast place (x ∷ []) within l
+          (ap (λ (n : ℕ). chunks 118 n (drop (gatherAt t) s) ++ (x ∷ [])) (eqb-true place 0 a))
+      at false true a g =
+          let h = both (eqb d 1) (eqb (getD s (markAt t) 0) 1) g in
+          let one : d ≡ 1 = eqb-true d 1 (h .0) in
+          let next : place ≡ suc (getD s (placeAt t) 0) =
+          ap (placed (pieces t) (getD s (placeAt t) 0)) one
+          ∙ follows (getD s (placeAt t) 0) (pieces t) (f .tracks t c .place) (rw one at a) in
+          gathers-formed atLast place (trackIn s t .gathered ++ (x ∷ [])) within l
+          (rw (h .1) (ap (λ (n : ℕ). chunks 118 n (drop (gatherAt t) s) ++ (x ∷ [])) next))
+      at false false a g = refl
+
+  arrives-formed : (d : ℕ) (b : Bool)
+      → toldOf (received (readerIn s) t (arrives b (pieces t) (trackIn s t) count d x)) o (arrivesOn s t b count d x)
+      ≡ arrivesTo s t b count d x o
+  unfolding received trackIn
+  arrives-formed d true = refl
+  arrives-formed d false = moves-formed d _ _ _ refl refl refl
+
+  arrived-formed : toldOf (received (readerIn s) t (arrive (pieces t) (readerIn s t) count x)) o (arrivedOn s t count x)
+      ≡ arrivedTo s t count x o
+  unfolding arrivedOn arrive arrivedTo readerIn trackIn
+  arrived-formed =
+      subst
+      (λ (k : Track (List ℕ)).
+      toldOf (received (readerIn s) t (arrive (pieces t) k count x)) o (arrivedOn s t count x) ≡ arrivedTo s t count x o)
+      (sym own) (arrives-formed (distance (be16 s (recordAt t)) count) (eqb (distance (be16 s (recordAt t)) count) 0))
+    where
+      own : readerIn s t ≡ trackIn s t
+      own = ap (λ (b : Bool). cond b (trackIn s t) (fresh (pieces t))) c
+
+understood-formed : (s : List ℕ) → Fit s → (p : Packet) → Shaped Any p → (o : List ℕ)
+    → toldOf (understood (readerIn s) p) o (understoodOn s p) ≡ understoodTo s p o
+unfolding understood understoodOn understoodTo
+understood-formed s f (packet t count x) h o = arrived-formed s f t (h .0) count x (h .2) o
+understood-formed s f notCarried h o = refl
+understood-formed s f noPacket h o = refl
+
+pub read-formed : (s f o : List ℕ) → readOf s f o ≡ formed s f o
+unfolding readOf formed receivedOn readerStep
+read-formed s f o = at (fit s) refl (ltb (length o) 776)
+  where
+    at : (b : Bool) → fit s ≡ b → (w : Bool)
+        → cond b
+        (toldOf (cond w (heard 24 [] (readerIn s)) (understood (readerIn s) (packetOf f))) o (cond w s (understoodOn s (packetOf f))))
+        (res 25 o s)
+        ≡ cond b (cond w (res 24 o s) (understoodTo s (packetOf f) o)) (res 25 o s)
+    at true e true = refl
+    at true e false = understood-formed s (fit-true s e) (packetOf f) (shaped Any f tt) o
+    at false e w = refl

@@ -1,0 +1,29 @@
+-- Where each number of the reader stands in its lent bytes: "the records of all carried streams and the gathered pieces are kept
+-- in one range of lent bytes". Every stream's number below 12 has a place by one formula; those not carried leave theirs unused.
+-- Assumes nothing.
+use Prim.Native.Nat.{ℕ, _+_, _*_}
+
+-- streams have numbers below this
+abbrev pub streams : ℕ
+streams = 12
+
+-- A stream's record: last count (2 bytes), place (1), mark (1): 1 where a gathering runs, else 0.
+abbrev pub recordAt : ℕ → ℕ
+recordAt t = 4 * t
+
+abbrev pub placeAt : ℕ → ℕ
+placeAt t = 4 * t + 2
+
+abbrev pub markAt : ℕ → ℕ
+markAt t = 4 * t + 3
+
+-- its gathered pieces: room for seven of 118 bytes, as many as a packet has at most
+abbrev pub gatherAt : ℕ → ℕ
+gatherAt t = 48 + 826 * t
+
+-- the piece of a place
+abbrev pub pieceAt : ℕ → ℕ → ℕ
+pieceAt t place = gatherAt t + 118 * place
+
+abbrev pub readerBytes : ℕ
+readerBytes = 9960

@@ -1,0 +1,8 @@
+-- The reader's lent bytes: where each number stands (Layout), the reader that they hold (View), the ranges that a call tests
+-- (Range), one call (Received), the same said by bytes alone (Formed), and fresh bytes (Fresh).
+pub mod Layout
+pub mod View
+pub mod Range
+pub mod Received
+pub mod Formed
+pub mod Fresh

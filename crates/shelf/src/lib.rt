@@ -1,0 +1,1 @@
+// The reader's lent bytes: definitions and laws alone.

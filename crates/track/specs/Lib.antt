@@ -1,0 +1,2 @@
+-- What a move means in the paper's words.
+pub mod Moves
