@@ -11,7 +11,7 @@ use Rattle.paper.specs.Packets.{dataOf, datastream, filled, cut}
 use Rattle.paper.specs.Controller.{stampNow, queued}
 use Rattle.paper.specs.Housekeeping.{housekeepingPacket}
 use Rattle.paper.specs.Acts.{impactPacket}
-use Rattle.streams.proofs.Table.{carried-small}
+use Rattle.paper.proofs.Table.{carried-small}
 use Rattle.state.specs.Layout.{waitingAt}
 use Rattle.state.specs.View.{impactIn, samplesIn, view}
 use Rattle.state.specs.Range.{Fit}

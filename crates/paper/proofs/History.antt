@@ -22,7 +22,7 @@ use Rattle.paper.specs.Housekeeping.{housekeepingPacket}
 use Rattle.paper.specs.Acts.{enter, heard, moved, counted as ticked, inProximity, last, completes, taken, watching, ended, impactPacket, completed, ticks, joinedBy, closes, closed, extended, sampled, noted, cleared, commanded, obeyed, polled, performed, polledFrom, accepted, answer}
 use Rattle.paper.specs.Step.{holds, queues, nothingWaits, reply, lateHeard, erred, isError, refused, Outcome, outcome, replied, step}
 use Rattle.paper.specs.Runs.{Call, runs}
-use Rattle.paper.specs.History.{history, howMany, sameChannel, commandOn, broadcastsOn, packetsOn, commandsIn, pollsOn, errorsIn, isAccepted, raisesBroadcasts, raisesPackets, raisesCommands, raisesTelemetry, raisesErrors, fullPacket, onlyIf, sent, sentAt, sentBy, piecesOf, countsAfter, numberedAll, spares, stillWaiting, stillWaitingAt}
+use Rattle.paper.specs.History.{history, howMany, sameChannel, commandOn, broadcastsOn, packetsOn, commandsIn, pollsOn, errorsIn, isAccepted, raisesBroadcasts, raisesPackets, raisesCommands, raisesTelemetry, raisesErrors, fullPacket, onlyIf, sent, sentAt, sentBy, piecesOf, countsAfter, numberedAll, spares, stillWaiting, sparedAt, stillWaitingAt}
 use Rattle.paper.proofs.Refusals.{passed}
 
 -- ---- what packets do to queue and counts
@@ -188,7 +188,7 @@ queues-refused n faulty c = queues-none c c (c .queue) refl refl
 
 -- the law of a call
 pub queues-step : (c : Controller) (x : Call) → Queues c (step c (x .bytes) (x .room) .next) (stillWaitingAt c x) (sentAt c x)
-unfolding step replied stillWaitingAt sentAt
+unfolding step replied sparedAt stillWaitingAt sentAt
 queues-step c x = by (reply (holds c) f (x .room)) (eqb (reply (holds c) f (x .room)) 0) refl
   where
     f : Frame

@@ -3,7 +3,7 @@
 -- Assumes nothing.
 use mathlib.Core.Path.{_≡_, refl, sym, ap, _∙_}
 use mathlib.Core.Bool.{Bool, true, false, cond, not, _&&_}
-use mathlib.Core.List.{List, [], _∷_, _++_}
+use mathlib.Core.List.{List, [], _∷_}
 use Prim.Native.Nat.{ℕ, zero, suc, _+_, _-_, _*_, _%_, _≤_, _<_}
 use native.Mathlib.Omega.{arith}
 use borrow.Author.Tests.{eqb-true, eqb-false, ne-eqb}
@@ -19,36 +19,22 @@ use Rattle.paper.specs.Impact.{Impact, Stamp, Collection, idle, running,
 use Rattle.paper.specs.Commands.{Request, clear, housekeeping, setMode, Decoded, request, refusal, names, decoded}
 use Rattle.paper.specs.Streams.{acc-i, hk, pieces}
 use Rattle.paper.specs.Packets.{pieceSize, filled, chunks, cut}
-use Rattle.paper.specs.Queue.{Piece, wrap, numbered, without}
+use Rattle.paper.specs.Queue.{Piece, wrap, numbered}
 use Rattle.paper.specs.Controller.{Open, Controller, start, queued, withImpact, stampNow}
 use Rattle.paper.specs.Acts.{emptied, enter, heard, moved, counted, inProximity, last, completes, taken, watching, ended, impactPacket, completed, ticks, joinedBy, closes, closed, extended, sampled, noted, cleared, commanded, obeyed, shown, polled, performed, polledFrom, shownFrom, accepted, answer}
 use Rattle.paper.specs.Step.{holds, first, reply, nothingWaits, lateHeard, erred, refused, isError, outcome, replied, step}
 use Rattle.paper.specs.Runs.{Call, runs}
+use Rattle.paper.proofs.All.{All, all-append, all-without}
 use Rattle.paper.proofs.Refusals.{reply-is, passed}
 
 -- ---- pieces of 118 bytes
 
 abbrev pub Whole : List (Piece (List ℕ)) → Type 0
-Whole [] = Unit {0}
-Whole (p ∷ ps) = (length (p .body) ≡ 118) × Whole ps
-
-pub whole-append : (q r : List (Piece (List ℕ))) → Whole q → Whole r → Whole (q ++ r)
-whole-append [] r a b = b
-whole-append (p ∷ q) r a b = (a .0, whole-append q r (a .1) b)
-
-whole-without : (f : ℕ → Bool) (q : List (Piece (List ℕ))) → Whole q → Whole (without f q)
-unfolding without
-whole-without f [] a = tt
-whole-without f (p ∷ q) a = at (f (p .stream)) (whole-without f q (a .1))
-  where
-    at : (b : Bool) → Whole (without f q) → Whole (cond b (without f q) (p ∷ without f q))
-    at true r = r
-    at false r = (a .0, r)
+Whole = All (λ p. length (p .body) ≡ 118)
 
 -- a run that is long enough is cut into whole pieces
 abbrev pub Full : List (List ℕ) → Type 0
-Full [] = Unit {0}
-Full (x ∷ xs) = (length x ≡ 118) × Full xs
+Full = All (λ x. length x ≡ 118)
 
 full-chunks : (k : ℕ) (l : List ℕ) → k * 118 ≤ length l → Full (chunks 118 k l)
 full-chunks zero l h = tt
@@ -161,7 +147,7 @@ pub kept-queued : (c : Controller) (s : ℕ) (x : List ℕ) → Kept c → Kept 
 unfolding queued
 kept-queued c s x k =
     record {
-      whole = whole-append (c .queue) _ (k .whole) (whole-numbered s (c .counts s) (cut (pieces s) x) (full-cut (pieces s) x));
+      whole = all-append _ (c .queue) _ (k .whole) (whole-numbered s (c .counts s) (cut (pieces s) x) (full-cut (pieces s) x));
       proximal = k .proximal;
     }
 
@@ -216,7 +202,7 @@ kept-sampled c s x k = at (closes c s)
 
 kept-obeyed : (c : Controller) (q : Request) → Kept c → Kept (obeyed c q)
 unfolding obeyed cleared commanded
-kept-obeyed c (clear mask) k = record { whole = whole-without (names mask) (c .queue) (k .whole); proximal = k .proximal }
+kept-obeyed c (clear mask) k = record { whole = all-without _ (names mask) (c .queue) (k .whole); proximal = k .proximal }
 kept-obeyed c housekeeping k = kept-queued c hk _ k
 kept-obeyed c (setMode value) k =
     kept-enter (withImpact c (ended (c .impact))) (modeOf (value % 8)) (leb 8 value) (seconds (c .clock .time)) (k .whole) refl

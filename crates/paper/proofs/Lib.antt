@@ -1,4 +1,6 @@
--- What document 01 states about its machine, proved on the definitions of specs/.
+-- What document 01 states about its machine, proved on the definitions of specs/; and demand 3, of which Demand3 is the last step.
+pub mod All
+pub mod Table
 pub mod Shapes
 pub mod Refusals
 pub mod Modes
@@ -6,3 +8,14 @@ pub mod Labels
 pub mod Kept
 pub mod History
 pub mod Edges
+pub mod Sizes
+pub mod Whole
+pub mod Sending
+pub mod Arrivals
+pub mod Reading
+pub mod Polled
+pub mod Way
+pub mod Selected
+pub mod Demand3
+pub mod Handing
+pub mod Sharp

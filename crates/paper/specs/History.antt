@@ -185,5 +185,8 @@ stillWaiting (analogue bytes) q = q
 stillWaiting faulty q = q
 
 -- the same of a call: a refused one leaves the queue as it is
+unfoldable pub sparedAt : Controller → Call → List (Piece (List ℕ)) → List (Piece (List ℕ))
+sparedAt c x q = cond (isAccepted (step c (x .bytes) (x .room) .reply)) (stillWaiting (frameOf (x .bytes)) q) q
+
 unfoldable pub stillWaitingAt : Controller → Call → List (Piece (List ℕ))
-stillWaitingAt c x = cond (isAccepted (step c (x .bytes) (x .room) .reply)) (stillWaiting (frameOf (x .bytes)) (c .queue)) (c .queue)
+stillWaitingAt c x = sparedAt c x (c .queue)

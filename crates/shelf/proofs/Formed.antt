@@ -3,21 +3,22 @@
 use mathlib.Core.Path.{_≡_, refl, sym, ap, _∙_, subst}
 use mathlib.Core.Bool.{Bool, true, false, cond, _&&_}
 use mathlib.Core.List.{List, [], _∷_, _++_}
-use Prim.Native.Nat.{ℕ, zero, suc, _+_, _-_, _*_, _/_, _%_, _<_}
+use Prim.Native.Nat.{ℕ, suc, _+_, _-_, _*_, _<_}
 use native.Mathlib.Nat.{mod-lt}
 use native.Mathlib.Omega.{arith}
 use lib.Dec.{eqb, ltb}
-use lib.ListN.{length, getD, take, drop, length-drop}
-use lib.Seq.{take-add, take-take}
+use lib.ListN.{length, getD, take, drop}
+use lib.Seq.{take-take}
 use borrow.Author.Tests.{ltb-true, eqb-true}
 use Rattle.wire.specs.Wire.{be16, part, put}
 use Rattle.wire.proofs.Runs.{part-put-after}
 use Rattle.paper.specs.Streams.{pieces, listed, carried}
 use Rattle.paper.specs.Packets.{chunks, joined}
 use Rattle.paper.specs.Queue as Queue
-use Rattle.paper.specs.Reader.{Track, fresh, distance, placed, gathers, moves, arrives, arrive, Packet, packet, notCarried, noPacket, wellFormed, packetOf, sound, Reader, heard, received, understood, readerStep}
+use Rattle.paper.specs.Reader.{Track, fresh, distance, placed, gathers, moves, arrives, arrive, Packet, packet, notCarried, noPacket, packetOf, sound, Reader, heard, received, understood, readerStep}
 use Rattle.state.specs.Told.{res}
-use Rattle.streams.proofs.Table.{Carried, carried-rules}
+use Rattle.paper.proofs.Whole.{joined-chunks}
+use Rattle.paper.proofs.Table.{Carried, carried-rules}
 use Rattle.shelf.specs.Layout.{recordAt, placeAt, markAt, gatherAt, pieceAt}
 use Rattle.shelf.specs.View.{trackIn, readerIn}
 use Rattle.shelf.specs.Range.{Fit, fit}
@@ -26,15 +27,6 @@ use Rattle.shelf.specs.Formed.{handsTo, gathersTo, movesTo, arrivesTo, a
 use Rattle.shelf.proofs.Ranges.{both, fit-true}
 use Rattle.shelf.proofs.Gathered.{piece-snoc, Elsewhere, body-elsewhere, follows}
 use Rattle.shelf.proofs.Packets.{Shaped, shaped, Any}
-
--- the bytes of pieces side by side
-pub joined-chunks : (n : ℕ) (l : List ℕ) → joined (chunks 118 n l) ≡ take (118 * n) l
-joined-chunks zero l = refl
-joined-chunks (suc n) l =
-    let e : 118 + 118 * n ≡ 118 * suc n = omega arith in
-    ap (λ (r : List ℕ). take 118 l ++ r) (joined-chunks n (drop 118 l))
-    ∙ sym (take-add 118 (118 * n) l)
-    ∙ ap (λ (m : ℕ). take m l) e
 
 module _ (s : List ℕ) (f : Fit s) (t : ℕ) (c : carried t ≡ true) (count : ℕ) (x : List ℕ) (sized : length x ≡ 118) (o : List ℕ) where
   r : Carried t
@@ -54,9 +46,10 @@ module _ (s : List ℕ) (f : Fit s) (t : ℕ) (c : carried t ≡ true) (count : 
       let apart : part (put y (recordAt t) (recordOf count place 0)) (gatherAt t) (118 * pieces t) ≡ part y (gatherAt t) (118 * pieces t) =
       part-put-after y (recordAt t) (recordOf count place 0) (omega (arith, r .small, f .whole, body .long)) (gatherAt t) (118 * pieces t)
       (omega (arith, r .small)) (omega (arith, r .small, r .few, f .whole, body .long)) in
+      let size : suc place * 118 ≡ 118 * pieces t = omega arith in
       ap joined (sym snoc)
-      ∙ joined-chunks (suc place) (drop (gatherAt t) y)
-      ∙ ap (λ (n : ℕ). part y (gatherAt t) (118 * n)) e
+      ∙ joined-chunks 118 (suc place) (drop (gatherAt t) y)
+      ∙ ap (part y (gatherAt t)) size
       ∙ sym apart
 
   gathers-formed : (b : Bool) (place : ℕ) (g : List (List ℕ)) → place < pieces t → eqb place (pieces t - 1) ≡ b

@@ -57,17 +57,27 @@ module _ (s : List ℕ) (w : readerBytes ≤ length s) where
       ap (λ (n : ℕ). getD (put (put s 0 zeros) 0 (freshRecords 0 streams)) n 0) (sym (zero-add i))
       ∙ getD-put-inside (put s 0 zeros) 0 (freshRecords 0 streams) records-fit i h
 
+  -- a record of the list is read back at its stream's place
+  begins : (t k : ℕ) → t < streams → be16 (freshRecords 0 streams) (recordAt t) ≡ 4095
+      → getD (freshRecords 0 streams) (placeAt t) 0 ≡ k - 1 → getD (freshRecords 0 streams) (markAt t) 0 ≡ 0 → Begun (startedOn s) t k
+  begins t k l last place mark =
+      record {
+        last = omega (arith, byte (recordAt t) (omega arith), byte (recordAt t + 1) (omega arith), last);
+        place = byte (placeAt t) (omega arith) ∙ place;
+        mark = byte (markAt t) (omega arith) ∙ mark;
+      }
+
   begun : (t : ℕ) → carried t ≡ true → Begun (startedOn s) t (pieces t)
   unfolding rowOf
   begun =
       by-row (λ t r. ltb 0 (r .pieces) ≡ true → Begun (startedOn s) t (r .pieces))
-      (λ c. record { last = omega (arith, byte 8 (omega arith), byte 9 (omega arith)); place = byte 10 (omega arith); mark = byte 11 (omega arith) })
-      (λ c. record { last = omega (arith, byte 16 (omega arith), byte 17 (omega arith)); place = byte 18 (omega arith); mark = byte 19 (omega arith) })
-      (λ c. record { last = omega (arith, byte 20 (omega arith), byte 21 (omega arith)); place = byte 22 (omega arith); mark = byte 23 (omega arith) })
-      (λ c. record { last = omega (arith, byte 24 (omega arith), byte 25 (omega arith)); place = byte 26 (omega arith); mark = byte 27 (omega arith) })
-      (λ c. record { last = omega (arith, byte 36 (omega arith), byte 37 (omega arith)); place = byte 38 (omega arith); mark = byte 39 (omega arith) })
-      (λ c. record { last = omega (arith, byte 40 (omega arith), byte 41 (omega arith)); place = byte 42 (omega arith); mark = byte 43 (omega arith) })
-      (λ c. record { last = omega (arith, byte 44 (omega arith), byte 45 (omega arith)); place = byte 46 (omega arith); mark = byte 47 (omega arith) })
+      (λ c. begins 0x2 7 (omega arith) refl refl refl)
+      (λ c. begins 0x4 1 (omega arith) refl refl refl)
+      (λ c. begins 0x5 1 (omega arith) refl refl refl)
+      (λ c. begins 0x6 1 (omega arith) refl refl refl)
+      (λ c. begins 0x9 1 (omega arith) refl refl refl)
+      (λ c. begins 0xA 1 (omega arith) refl refl refl)
+      (λ c. begins 0xB 5 (omega arith) refl refl refl)
       (λ t c. absurd (let z : _≡_ {A = ℕ} 0 1 = cc in omega arith))
 
   pub start-view : readerIn (startedOn s) ≡ readerStart

@@ -18,7 +18,7 @@ Shaped P (packet t count x) = (carried t ≡ true) × P count × (length x ≡ 1
 Shaped P notCarried = Unit {0}
 Shaped P noPacket = Unit {0}
 
-long-enough : (f : List ℕ) → wellFormed f ≡ true → length f ≡ 126
+pub long-enough : (f : List ℕ) → wellFormed f ≡ true → length f ≡ 126
 unfolding wellFormed
 long-enough f e = eqb-true (length f) 126 (both (eqb (length f) 126) _ e .0)
 

@@ -3,19 +3,19 @@
 use mathlib.Core.Path.{_≡_, refl, sym, ap, _∙_, subst, fun-ext}
 use mathlib.Core.Bool.{Bool, true, false, cond, _&&_}
 use mathlib.Core.List.{List, [], _∷_, _++_}
-use Prim.Native.Nat.{ℕ, suc, _+_, _/_, _%_, _≤_, _<_}
+use Prim.Native.Nat.{ℕ, suc, _+_, _≤_, _<_}
 use native.Mathlib.Nat.{mod-lt}
 use native.Mathlib.Omega.{arith}
 use lib.Dec.{eqb, ltb}
-use lib.ListN.{length, getD, drop, length-drop}
+use lib.ListN.{length, getD, drop}
 use borrow.Author.Tests.{ltb-true, eqb-true, eqb-false}
 use Rattle.wire.specs.Wire.{be16, put}
 use Rattle.paper.specs.Streams.{pieces, carried}
 use Rattle.paper.specs.Packets.{chunks, joined}
 use Rattle.paper.specs.Queue as Queue
-use Rattle.paper.specs.Reader.{Track, fresh, distance, placed, gathers, moves, arrives, arrive, Packet, packet, notCarried, noPacket, wellFormed, packetOf, sound, Reader, Heard, heard, received, understood, readerStep}
+use Rattle.paper.specs.Reader.{Track, fresh, distance, placed, gathers, moves, arrives, arrive, Packet, packet, notCarried, noPacket, packetOf, sound, Reader, Heard, heard, received, understood, readerStep}
 use Rattle.state.specs.Told.{Res}
-use Rattle.streams.proofs.Table.{Carried, carried-rules}
+use Rattle.paper.proofs.Table.{Carried, carried-rules}
 use Rattle.shelf.specs.Layout.{recordAt, placeAt, markAt, gatherAt, pieceAt, readerBytes}
 use Rattle.shelf.specs.View.{trackIn, readerIn}
 use Rattle.shelf.specs.Range.{Fits, Fit}

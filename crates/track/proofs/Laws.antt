@@ -1,20 +1,20 @@
 -- Each move, with the record that it leaves, is right: case by case, from the tests that the code makes.
 -- Assumes nothing.
 use mathlib.Core.Bool.{Bool, true, false, _&&_, _||_}
-use mathlib.Core.List.{List, [], _∷_, _++_}
+use mathlib.Core.List.{List, []}
 use mathlib.Core.Path.{_≡_, refl, _∙_}
 use Prim.Native.Nat.{ℕ, _-_, _<_}
-use native.Mathlib.Omega.{arith}
 use borrow.Author.Tests.{eq-eqb, ne-eqb}
 use lib.Dec.{eqb}
 use Rattle.paper.specs.Reader as paper
-use Rattle.paper.specs.Reader.{Arrival, taken, finished, moves}
+use Rattle.paper.specs.Reader.{taken, finished, moves}
 use Rattle.track.specs.declared.Track.{Track}
 use Rattle.track.specs.declared.Moved.{Moved}
 use Rattle.track.specs.declared.Move.{Move}
 use Rattle.track.specs.declared.Move.the-variants.{Repeat, Dropped, Kept, Finished}
 use Rattle.track.specs.Moves.{tracked, with, meant, InRange, Right}
 
+-- a move with the record that it leaves, as the code's `leaves` gives it
 abbrev pub left : Move → ℕ → ℕ → Bool → Moved
 left step last place running = record { track = record { last = last; place = place; running = running }; step = step }
 

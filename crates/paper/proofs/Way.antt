@@ -1,0 +1,217 @@
+-- The way from the polls to the reader: of each stream the arrivals are repeats of the last one or later pieces, and the packets that
+-- the reader finds among the frames are those arrivals, whatever else comes.
+-- Assumes nothing.
+use mathlib.Core.Path.{_≡_, refl, sym, ap, _∙_, subst}
+use mathlib.Core.Logic.{_⊎_, inl, inr}
+use mathlib.Core.Bool.{Bool, true, false, cond}
+use mathlib.Core.Option.{Option, none, some}
+use mathlib.Core.List.{List, [], _∷_, map}
+use Prim.Native.Nat.{ℕ, zero, suc, _+_, _%_, _≤_, _<_}
+use native.Mathlib.Omega.{arith}
+use lib.Dec.{eqb, lit≤}
+use lib.ListN.{length, getD, take}
+use borrow.Author.Tests.{eqb-true, eqb-false, eq-eqb}
+use Rattle.paper.specs.Streams.{listed}
+use Rattle.paper.specs.Packets.{joined}
+use Rattle.paper.specs.Queue.{put}
+use Rattle.paper.specs.Reader as reader
+use Rattle.paper.specs.Reader.{Packet, packet, notCarried, noPacket, packetOf, sound, Reader, heard, received, understood, readerStart}
+use Rattle.paper.specs.Runs.{Call}
+use Rattle.paper.specs.Demands.{Polled, Fate, lost, came, again, noise, Arrival, own, strange, repeats, arrivalsFrom, NoPacket, Quiet, ownOf, Gaps, Given}
+use Rattle.paper.proofs.Arrivals.{In, Arrives, piece}
+use Rattle.paper.proofs.Reading.{mine, packetsOf, Roomy, has-room}
+use Rattle.paper.proofs.Polled.{only, polledIn, Fine, fine-lower, Genuine, Genuines}
+
+-- ---- what is known of arrivals
+
+abbrev pub AllGenuine : List Arrival → Type 0
+AllGenuine [] = Unit {0}
+AllGenuine (own p ∷ ys) = Genuine p × AllGenuine ys
+AllGenuine (strange f ∷ ys) = AllGenuine ys
+
+pub genuine-take : (n : ℕ) (ys : List Arrival) → AllGenuine ys → AllGenuine (take n ys)
+genuine-take zero ys h = tt
+genuine-take (suc n) [] h = tt
+genuine-take (suc n) (own p ∷ ys) h = (h .0, genuine-take n ys (h .1))
+genuine-take (suc n) (strange f ∷ ys) h = genuine-take n ys h
+
+module _ (s : ℕ) (H : List (List ℕ)) where
+  -- each is the last one once more, or a later one; H has its body under its number
+  abbrev pub Told : ℕ → List Polled → Type 0
+  Told lo [] = Unit {0}
+  Told lo (p ∷ ps) =
+      ((suc (p .number) ≡ lo) ⊎ (lo ≤ p .number)) × (p .number < length H)
+      × (packetOf (p .bytes) ≡ packet s (p .number % 4096) (getD H (p .number) [])) × Told (suc (p .number)) ps
+
+  pub told-take : (n : ℕ) (ys : List Arrival) (lo : ℕ) → Told lo (ownOf s ys) → Told lo (ownOf s (take n ys))
+  unfolding ownOf
+  told-take zero ys lo h = tt
+  told-take (suc n) [] lo h = tt
+  told-take (suc n) (own p ∷ ys) lo h = at (eqb (p .stream) s) h (λ lo′ k. told-take n ys lo′ k)
+    where
+      at : (b : Bool) → Told lo (cond b (p ∷ ownOf s ys) (ownOf s ys))
+          → ((lo′ : ℕ) → Told lo′ (ownOf s ys) → Told lo′ (ownOf s (take n ys)))
+          → Told lo (cond b (p ∷ ownOf s (take n ys)) (ownOf s (take n ys)))
+      at true k ih = (k .0, k .1, k .2, ih (suc (p .number)) (k .3))
+      at false k ih = ih lo k
+  told-take (suc n) (strange f ∷ ys) lo h = told-take n ys lo h
+
+  -- ---- fates
+
+  -- the last arrival of a stream t is of stream t, and genuine; that of stream s has the number before lo
+  abbrev Mine : ℕ → Option Polled → Type 0
+  Mine t none = Unit {0}
+  Mine t (some p) = (p .stream ≡ t) × Genuine p
+
+  abbrev Last : ℕ → Option Polled → Type 0
+  Last lo none = Unit {0}
+  Last lo (some p) =
+      (suc (p .number) ≡ lo) × (p .number < length H) × (packetOf (p .bytes) ≡ packet s (p .number % 4096) (getD H (p .number) []))
+
+  mine-put : (last : ℕ → Option Polled) (p : Polled) → Genuine p → ((t : ℕ) → Mine t (last t)) → (t : ℕ)
+      → Mine t (put last (p .stream) (some p) t)
+  unfolding put
+  mine-put last p g h t = at (eqb (p .stream) t) refl
+    where
+      at : (b : Bool) → eqb (p .stream) t ≡ b → Mine t (cond b (some p) (last t))
+      at true e = (eqb-true (p .stream) t e, g)
+      at false e = h t
+
+  loses : (p : Polled) (lo : ℕ) (ps : List Polled) (b : Bool) → Fine s H lo (cond b (p ∷ ps) ps) → Fine s H lo ps
+  loses p lo ps true f = fine-lower s H lo (suc (p .number)) ps (omega (arith, f .0)) (f .3)
+  loses p lo ps false f = f
+
+  comes : (p : Polled) (lo : ℕ) (ps qs : List Polled) (o : Option Polled)
+      → ((lo′ : ℕ) (b : Bool) → eqb (p .stream) s ≡ b → Fine s H lo′ ps → Last lo′ (cond b (some p) o) → Told lo′ qs)
+      → (b : Bool) → eqb (p .stream) s ≡ b → Fine s H lo (cond b (p ∷ ps) ps) → Last lo o → Told lo (cond b (p ∷ qs) qs)
+  comes p lo ps qs o ih true t f q = (inr (f .0), f .1, f .2, ih (suc (p .number)) true t (f .3) (refl, f .1, f .2))
+  comes p lo ps qs o ih false t f q = ih lo false t f q
+
+  repeated : (t lo : ℕ) (o : Option Polled) (ys : List Arrival) → (t ≡ s → Last lo o) → Mine t o → Told lo (ownOf s ys)
+      → Told lo (ownOf s (repeats o ys))
+  unfolding ownOf
+  repeated t lo none ys q m r = r
+  repeated t lo (some p) ys q m r = at (eqb (p .stream) s) refl
+    where
+      at : (b : Bool) → eqb (p .stream) s ≡ b → Told lo (cond b (p ∷ ownOf s ys) (ownOf s ys))
+      at true h = let z = q (sym (m .0) ∙ eqb-true (p .stream) s h) in (inl (z .0), z .1, z .2, rw (z .0) r)
+      at false h = r
+
+  hears : (fates : List Fate) (last : ℕ → Option Polled) (ps : List Polled) (lo : ℕ) → Fine s H lo (polledIn s ps)
+      → ((t : ℕ) → Mine t (last t)) → Last lo (last s) → Genuines ps → Told lo (ownOf s (arrivalsFrom last ps fates))
+  unfolding arrivalsFrom ownOf only put
+  hears [] last ps lo f m q g = tt
+  hears (lost ∷ fs) last [] lo f m q g = hears fs last [] lo f m q g
+  hears (lost ∷ fs) last (p ∷ ps) lo f m q g = hears fs last ps lo (loses p lo (polledIn s ps) (eqb (p .stream) s) f) m q (g .1)
+  hears (came ∷ fs) last [] lo f m q g = hears fs last [] lo f m q g
+  hears (came ∷ fs) last (p ∷ ps) lo f m q g =
+      comes p lo (polledIn s ps) (ownOf s (arrivalsFrom (put last (p .stream) (some p)) ps fs)) (last s)
+      (λ lo′ b t f′ q′. hears fs (put last (p .stream) (some p)) ps lo′ f′ (mine-put last p (g .0) m) (rw t q′) (g .1))
+      (eqb (p .stream) s) refl f q
+  hears (again t ∷ fs) last ps lo f m q g =
+      repeated t lo (last t) (arrivalsFrom last ps fs) (λ h. subst (λ (u : ℕ). Last lo (last u)) (sym h) q) (m t)
+      (hears fs last ps lo f m q g)
+  hears (noise y ∷ fs) last ps lo f m q g = hears fs last ps lo f m q g
+
+  -- every packet that arrives is genuine
+  genuine-repeats : (t : ℕ) (o : Option Polled) (ys : List Arrival) → Mine t o → AllGenuine ys → AllGenuine (repeats o ys)
+  genuine-repeats t none ys m h = h
+  genuine-repeats t (some p) ys m h = (m .1, h)
+
+  genuine-all : (fates : List Fate) (last : ℕ → Option Polled) (ps : List Polled) → ((t : ℕ) → Mine t (last t)) → Genuines ps
+      → AllGenuine (arrivalsFrom last ps fates)
+  unfolding arrivalsFrom
+  genuine-all [] last ps m g = tt
+  genuine-all (lost ∷ fs) last [] m g = genuine-all fs last [] m g
+  genuine-all (lost ∷ fs) last (p ∷ ps) m g = genuine-all fs last ps m (g .1)
+  genuine-all (came ∷ fs) last [] m g = genuine-all fs last [] m g
+  genuine-all (came ∷ fs) last (p ∷ ps) m g =
+      (g .0, genuine-all fs (put last (p .stream) (some p)) ps (mine-put last p (g .0) m) (g .1))
+  genuine-all (again t ∷ fs) last ps m g =
+      genuine-repeats t (last t) (arrivalsFrom last ps fs) (m t) (genuine-all fs last ps m g)
+  genuine-all (noise y ∷ fs) last ps m g = genuine-all fs last ps m g
+
+  -- from nothing that arrived
+  pub arrivals-told : (fates : List Fate) (ps : List Polled) → Fine s H 0 (polledIn s ps) → Genuines ps
+      → Told 0 (ownOf s (arrivalsFrom (λ t. none) ps fates)) × AllGenuine (arrivalsFrom (λ t. none) ps fates)
+  arrivals-told fates ps f g =
+      (hears fates (λ t. none) ps 0 f (λ t. tt) tt g, genuine-all fates (λ t. none) ps (λ t. tt) g)
+
+  -- ---- as the numbers of one stream's theorem
+
+  pub told-arrives : (ps : List Polled) (lo : ℕ) → Told lo ps → Gaps lo (map (λ p. p .number) ps) → Arrives lo (map (λ p. p .number) ps)
+  told-arrives [] lo t g = tt
+  told-arrives (p ∷ ps) lo t g = (at (t .0), told-arrives ps (suc (p .number)) (t .3) (g .1))
+    where
+      at : (suc (p .number) ≡ lo) ⊎ (lo ≤ p .number) → (suc (p .number) ≡ lo) ⊎ ((lo ≤ p .number) × (p .number ≤ lo + 4094))
+      at (inl h) = inl h
+      at (inr h) = inr (h, g .0)
+
+  pub told-in : (ps : List Polled) (lo n : ℕ) → Told lo ps → In n (map (λ p. p .number) ps) → n < length H
+  told-in [] lo n t i = absurd i
+  told-in (p ∷ ps) lo n t (inl h) = rw h (t .1)
+  told-in (p ∷ ps) lo n t (inr h) = told-in ps (suc (p .number)) n (t .3) h
+
+-- ---- what the reader finds among the frames
+
+-- a packet's reply is none of 20 and 21
+neither : (m : ℕ) → eqb m 20 ≡ false → eqb m 21 ≡ false → (m ≡ 20) ⊎ (m ≡ 21) → ⊥
+neither m a b (inl h) = eqb-false m 20 a h
+neither m a b (inr h) = eqb-false m 21 b h
+
+packet-reply : (r : Reader) (s : ℕ) (a : reader.Arrival (List ℕ)) → (received r s a .reply ≡ 20) ⊎ (received r s a .reply ≡ 21) → ⊥
+unfolding received
+packet-reply r s reader.repeated h = neither 22 refl refl h
+packet-reply r s (reader.taken t) h = neither 0 refl refl h
+packet-reply r s (reader.finished t g) h = at (sound s (joined g)) h
+  where
+    o : Bool → reader.Heard
+    o b = cond b (heard 1 (take (listed s) (joined g)) (put r s t)) (heard 23 [] (put r s t))
+
+    at : (b : Bool) → (o b .reply ≡ 20) ⊎ (o b .reply ≡ 21) → ⊥
+    at true k = neither 1 refl refl k
+    at false k = neither 23 refl refl k
+
+-- so a frame that gets 20 or 21 counts for no stream
+strange-mine : (s : ℕ) (f : List ℕ) (l : List (ℕ × List ℕ)) → NoPacket f → mine s (packetOf f) l ≡ l
+unfolding understood
+strange-mine s f l h =
+    by (packetOf f)
+    (subst (λ (o : reader.Heard). (o .reply ≡ 20) ⊎ (o .reply ≡ 21)) (has-room readerStart f 776 (lit≤ tt)) h)
+  where
+    by : (p : Packet) → (understood readerStart p .reply ≡ 20) ⊎ (understood readerStart p .reply ≡ 21) → mine s p l ≡ l
+    by (packet t count x) k = absurd (packet-reply readerStart t _ k)
+    by notCarried k = refl
+    by noPacket k = refl
+
+-- the packets of stream s that the reader finds in polled ones
+unfoldable pub found : ℕ → List Polled → List (ℕ × List ℕ)
+found s [] = []
+found s (p ∷ ps) = mine s (packetOf (p .bytes)) (found s ps)
+
+pub given-found : (s : ℕ) (ys : List Arrival) (xs : List Call) → Given ys xs → Quiet ys → AllGenuine ys → packetsOf s xs ≡ found s (ownOf s ys)
+unfolding packetsOf found ownOf
+given-found s [] [] g q h = refl
+given-found s [] (x ∷ xs) g q h = absurd g
+given-found s (y ∷ ys) [] g q h = absurd g
+given-found s (own p ∷ ys) (x ∷ xs) g q h =
+    rw (g .0) (at (eqb (p .stream) s) refl (given-found s ys xs (g .2) q (h .1)))
+  where
+    at : (b : Bool) → eqb (p .stream) s ≡ b → packetsOf s xs ≡ found s (ownOf s ys)
+        → mine s (packetOf (p .bytes)) (packetsOf s xs) ≡ found s (cond b (p ∷ ownOf s ys) (ownOf s ys))
+    at true e k = ap (mine s (packetOf (p .bytes))) k
+    at false e k = rw (h .0 .2, e) k
+given-found s (strange f ∷ ys) (x ∷ xs) g q h =
+    rw (g .0) (strange-mine s f (packetsOf s xs) (q .0) ∙ given-found s ys xs (g .2) (q .1) h)
+
+pub given-roomy : (ys : List Arrival) (xs : List Call) → Given ys xs → Roomy xs
+given-roomy [] [] g = tt
+given-roomy [] (x ∷ xs) g = absurd g
+given-roomy (y ∷ ys) [] g = absurd g
+given-roomy (y ∷ ys) (x ∷ xs) g = (g .1, given-roomy ys xs (g .2))
+
+pub told-pieces : (s : ℕ) (H : List (List ℕ)) (ps : List Polled) (lo : ℕ) → Told s H lo ps
+    → found s ps ≡ map (piece (λ n. getD H n [])) (map (λ p. p .number) ps)
+unfolding found
+told-pieces s H [] lo t = refl
+told-pieces s H (p ∷ ps) lo t = rw (t .2, eq-eqb s s refl) (ap (λ l. (p .number % 4096, getD H (p .number) []) ∷ l) (told-pieces s H ps (suc (p .number)) (t .3)))

@@ -1,0 +1,217 @@
+-- Demand 3, as a claim on the definitions. Read out loud:
+--
+-- "Start both afresh. Take the controller's packets in the order polled" (`polled`); "lose any, repeat any unaltered as the next
+-- arrival of its stream, put frames that are no packet of a carried stream (replies 20 and 21) anywhere" (`Fate`, `arrivals`,
+-- `Quiet`). "If never more than 4,094 queued pieces of a stream go missing before its first arrival or between two" (`Gaps`), "the
+-- reader, given room" (`Given`), "hands out exactly the datastream packets all of whose pieces arrived, once each, in order, every
+-- byte true" (`Delivered`, an equation of lists, so no second outcome fits). "What is lost or repeated in one stream changes nothing
+-- handed out of another" (`Independent`).
+--
+-- A piece's number is how many pieces of its stream were queued before it. A piece that was cleared, lost or never polled is a number
+-- that does not arrive. All of it holds at every moment on the way, after the first n arrivals (`Demand3`).
+-- Assumes nothing.
+use mathlib.Core.Path.{_≡_}
+use mathlib.Core.Logic.{_⊎_}
+use mathlib.Core.Bool.{Bool, true, false, cond, _&&_, _||_}
+use mathlib.Core.Option.{Option, none, some}
+use mathlib.Core.List.{List, [], _∷_, _++_, map}
+use Prim.Native.Nat.{ℕ, zero, suc, _+_, _%_, _≤_}
+use lib.Dec.{eqb}
+use lib.ListN.{getD, take}
+use Rattle.wire.specs.Wire.{be16}
+use Rattle.paper.specs.Frames.{cdmuA, cdmuB, Frame, frameOf}
+use Rattle.paper.specs.Streams.{pieces}
+use Rattle.paper.specs.Packets.{cut}
+use Rattle.paper.specs.Queue.{Piece, put}
+use Rattle.paper.specs.Controller.{Controller, start}
+use Rattle.paper.specs.Step.{Outcome, step}
+use Rattle.paper.specs.Reader.{packet, packetOf, readerStart, readerStep}
+use Rattle.paper.specs.Runs.{Call, replies, readings}
+use Rattle.paper.specs.History.{pollOn, isAccepted, sentAt, sentBy, countsAfter, numberedAll, sparedAt}
+
+-- ---- "Take the controller's packets in the order polled"
+
+-- What a poll wrote, with the stream and the number of its piece.
+pub record Polled : Type 0 where
+  pub stream : ℕ
+  pub number : ℕ
+  pub bytes : List ℕ
+
+-- The controller's queue once more, beside it, with numbers in place of counts: of each stream how many pieces were queued, and the
+-- pieces that wait, each under its number. They move as the controller's do, but that a number goes on by one without end.
+pub record Numbers : Type 0 where
+  pub queued : ℕ → ℕ
+  pub waiting : List (Piece (List ℕ))
+
+abbrev pub none-queued : Numbers
+none-queued = record { queued = λ s. 0; waiting = [] }
+
+unfoldable pub numbersAfter : Controller → Numbers → Call → Numbers
+numbersAfter c w x =
+    record {
+      queued = countsAfter suc (w .queued) (sentAt c x);
+      waiting = sparedAt c x (w .waiting) ++ numberedAll suc (w .queued) (sentAt c x);
+    }
+
+abbrev pub isPoll : Frame → Bool
+isPoll f = pollOn cdmuA f || pollOn cdmuB f
+
+-- an accepted poll takes the first piece that waits
+unfoldable pub takenAt : Controller → Call → List (Piece (List ℕ)) → List (Piece (List ℕ))
+takenAt c x q = cond (isAccepted (step c (x .bytes) (x .room) .reply) && isPoll (frameOf (x .bytes))) (take 1 q) []
+
+abbrev pub written : List ℕ → Piece (List ℕ) → Polled
+written bytes p = record { stream = p .stream; number = p .count; bytes = bytes }
+
+unfoldable pub polledFrom : Controller → Numbers → List Call → List Polled
+polledFrom c w [] = []
+polledFrom c w (x ∷ xs) =
+    let o : Outcome = step c (x .bytes) (x .room) in
+    map (written (o .out)) (takenAt c x (w .waiting)) ++ polledFrom (o .next) (numbersAfter c w x) xs
+
+-- "Start both afresh."
+unfoldable pub polled : List Call → List Polled
+polled calls = polledFrom start none-queued calls
+
+-- That these are the controller's packets: their bytes are what its accepted polls wrote, one after the other,
+unfoldable pub pollOutputs : List Call → List (ℕ × List ℕ) → List (List ℕ)
+pollOutputs [] os = []
+pollOutputs (x ∷ xs) [] = []
+pollOutputs (x ∷ xs) (o ∷ os) =
+    cond (isAccepted (o .0) && isPoll (frameOf (x .bytes))) ((o .1) ∷ pollOutputs xs os) (pollOutputs xs os)
+
+-- and each is, of the pieces of its stream that were queued, the one of its number, with that number modulo 4096 for a count.
+unfoldable pub piecesQueued : ℕ → List (ℕ × List ℕ) → List (List ℕ)
+piecesQueued s [] = []
+piecesQueued s (p ∷ ps) = cond (eqb (p .0) s) (cut (pieces s) (p .1) ++ piecesQueued s ps) (piecesQueued s ps)
+
+abbrev pub Numbered : List (ℕ × List ℕ) → List Polled → Type 0
+Numbered sent [] = Unit {0}
+Numbered sent (p ∷ ps) =
+    (packetOf (p .bytes) ≡ packet (p .stream) (p .number % 4096) (getD (piecesQueued (p .stream) sent) (p .number) []))
+    × Numbered sent ps
+
+-- ---- "lose any, repeat any unaltered as the next arrival of its stream, put frames .. anywhere"
+
+-- The next polled packet is lost; it comes; the last arrival of stream s comes again, unaltered; some other frame is put in.
+pub data Fate : Type 0 where
+  lost : Fate
+  came : Fate
+  again : ℕ → Fate
+  noise : List ℕ → Fate
+
+-- what arrives: a packet of the controller's, or some other frame
+pub data Arrival : Type 0 where
+  own : Polled → Arrival
+  strange : List ℕ → Arrival
+
+abbrev pub frame : Arrival → List ℕ
+frame (own p) = p .bytes
+frame (strange f) = f
+
+abbrev pub repeats : Option Polled → List Arrival → List Arrival
+repeats none ys = ys
+repeats (some p) ys = own p ∷ ys
+
+-- what arrives of packets in the order polled; `last s` is the last arrival of stream s
+unfoldable pub arrivalsFrom : (ℕ → Option Polled) → List Polled → List Fate → List Arrival
+arrivalsFrom last ps [] = []
+arrivalsFrom last [] (lost ∷ fs) = arrivalsFrom last [] fs
+arrivalsFrom last (p ∷ ps) (lost ∷ fs) = arrivalsFrom last ps fs
+arrivalsFrom last [] (came ∷ fs) = arrivalsFrom last [] fs
+arrivalsFrom last (p ∷ ps) (came ∷ fs) = own p ∷ arrivalsFrom (put last (p .stream) (some p)) ps fs
+arrivalsFrom last ps (again s ∷ fs) = repeats (last s) (arrivalsFrom last ps fs)
+arrivalsFrom last ps (noise f ∷ fs) = strange f ∷ arrivalsFrom last ps fs
+
+unfoldable pub arrivals : List Call → List Fate → List Arrival
+arrivals calls fates = arrivalsFrom (λ s. none) (polled calls) fates
+
+-- "frames that are no packet of a carried stream (replies 20 and 21)"
+abbrev pub NoPacket : List ℕ → Type 0
+NoPacket f = (readerStep readerStart f 776 .reply ≡ 20) ⊎ (readerStep readerStart f 776 .reply ≡ 21)
+
+abbrev pub Quiet : List Arrival → Type 0
+Quiet [] = Unit {0}
+Quiet (own p ∷ ys) = Quiet ys
+Quiet (strange f ∷ ys) = NoPacket f × Quiet ys
+
+-- ---- "If never more than 4,094 queued pieces of a stream go missing before its first arrival or between two"
+
+-- the packets of stream s among arrivals, and the numbers of their pieces, in order of arrival
+unfoldable pub ownOf : ℕ → List Arrival → List Polled
+ownOf s [] = []
+ownOf s (own p ∷ ys) = cond (eqb (p .stream) s) (p ∷ ownOf s ys) (ownOf s ys)
+ownOf s (strange f ∷ ys) = ownOf s ys
+
+abbrev pub arrived : ℕ → List Arrival → List ℕ
+arrived s ys = map (λ p. p .number) (ownOf s ys)
+
+-- where e pieces have passed, arrived or missing: those from e up to the next arrival, m, go missing
+abbrev pub Gaps : ℕ → List ℕ → Type 0
+Gaps e [] = Unit {0}
+Gaps e (m ∷ ms) = (m ≤ e + 4094) × Gaps (suc m) ms
+
+-- ---- "the reader, given room, hands out"
+
+-- the reader's calls: each arrival in turn, with an output of 776 bytes or more
+abbrev pub Given : List Arrival → List Call → Type 0
+Given [] [] = Unit {0}
+Given [] (x ∷ xs) = ⊥
+Given (y ∷ ys) [] = ⊥
+Given (y ∷ ys) (x ∷ xs) = (x .bytes ≡ frame y) × (776 ≤ x .room) × Given ys xs
+
+-- What is handed out ("1 handed out"), each with its stream, of calls and what came back of them; "count times 16 plus stream"
+unfoldable pub handedOut : List Call → List (ℕ × List ℕ) → List (ℕ × List ℕ)
+handedOut [] hs = []
+handedOut (x ∷ xs) [] = []
+handedOut (x ∷ xs) (h ∷ hs) = cond (eqb (h .0) 1) ((be16 (x .bytes) 6 % 16, h .1) ∷ handedOut xs hs) (handedOut xs hs)
+
+-- of things with their streams, those of stream s
+unfoldable pub of : {X : Type 0} → ℕ → List (ℕ × X) → List X
+of s [] = []
+of s (x ∷ xs) = cond (eqb (x .0) s) ((x .1) ∷ of s xs) (of s xs)
+
+-- what a fresh reader hands out of stream s
+abbrev pub handedOutOf : ℕ → List Call → List (List ℕ)
+handedOutOf s given = of s (handedOut given (readings readerStart given))
+
+-- ---- "exactly the datastream packets all of whose pieces arrived, once each, in order, every byte true"
+
+abbrev pub among : ℕ → List ℕ → Bool
+among n [] = false
+among n (m ∷ ms) = eqb n m || among n ms
+
+-- whether the k pieces from number n on are among those that arrived
+abbrev pub allAmong : ℕ → ℕ → List ℕ → Bool
+allAmong zero n ms = true
+allAmong (suc k) n ms = among n ms && allAmong k (suc n) ms
+
+-- of packets of k pieces each, the first of which begins at number n: those all of whose pieces arrived
+unfoldable pub complete : ℕ → ℕ → List ℕ → List (List ℕ) → List (List ℕ)
+complete k n ms [] = []
+complete k n ms (x ∷ xs) = cond (allAmong k n ms) (x ∷ complete k (n + k) ms xs) (complete k (n + k) ms xs)
+
+-- `sentBy` are the datastream packets that calls to the controller queued, with their streams, at their listed lengths.
+abbrev pub Delivered : List Call → List Arrival → ℕ → Type 0
+Delivered calls ys s =
+    Quiet ys → Gaps 0 (arrived s ys) → (given : List Call) → Given ys given
+    → handedOutOf s given ≡ complete (pieces s) 0 (arrived s ys) (of s (sentBy start calls))
+
+-- ---- "What is lost or repeated in one stream changes nothing handed out of another."
+
+-- Whatever becomes of the other streams, and however many pieces of this one go missing: the same arrivals of stream s, the same
+-- packets of stream s handed out.
+abbrev pub Independent : List Arrival → List Arrival → ℕ → Type 0
+Independent ys zs s =
+    Quiet ys → Quiet zs → ownOf s ys ≡ ownOf s zs → (given given′ : List Call) → Given ys given → Given zs given′
+    → handedOutOf s given ≡ handedOutOf s given′
+
+-- ---- the demand
+
+pub record Demand3 : Type 0 where
+  pub written-by-polls : (calls : List Call) → map (λ p. p .bytes) (polled calls) ≡ pollOutputs calls (replies start calls)
+  pub numbered : (calls : List Call) → Numbered (sentBy start calls) (polled calls)
+  pub delivers : (calls : List Call) (fates : List Fate) (s : ℕ) → Delivered calls (arrivals calls fates) s
+  pub always : (calls : List Call) (fates : List Fate) (n s : ℕ) → Delivered calls (take n (arrivals calls fates)) s
+  pub independent : (calls : List Call) (fates fates′ : List Fate) (s : ℕ)
+      → Independent (arrivals calls fates) (arrivals calls fates′) s
