@@ -1,0 +1,2 @@
+-- Demand 3 about calls holds.
+pub mod Demand3

@@ -1,0 +1,80 @@
+-- Demand 3 about calls on lent bytes: what the controller's polls write, and what the reader's calls hand out, is what
+-- `Rattle.paper.specs.Demands` says, byte for byte, for any buffers that are long enough, any frames and any outputs.
+--
+-- A call is a frame with the output that is lent with it. `stepOf` and `readOf` are what the entries do to their bytes: their
+-- contracts are equations with them. `startOf` starts both afresh.
+-- Assumes nothing.
+use mathlib.Core.Path.{_≡_}
+use mathlib.Core.Bool.{cond, _&&_}
+use mathlib.Core.List.{List, [], _∷_, map}
+use Prim.Native.Nat.{ℕ, _%_, _≤_}
+use lib.Dec.{eqb}
+use lib.ListN.{length, take}
+use Rattle.wire.specs.Wire.{be16}
+use Rattle.paper.specs.Frames.{frameOf}
+use Rattle.paper.specs.Streams.{pieces, listed}
+use Rattle.paper.specs.Controller.{start}
+use Rattle.paper.specs.History.{isAccepted, sentBy}
+use Rattle.paper.specs.Demands.{isPoll, polled, Fate, Arrival, arrivals, Quiet, ownOf, arrived, Gaps, Given, of, complete}
+use Rattle.state.specs.Layout.{stateBytes}
+use Rattle.state.specs.Told.{Res}
+use Rattle.machine.specs.Called.{stepOf, startOf}
+use Rattle.machine.proofs.Steps.{calls, Framed}
+use Rattle.shelf.specs.Layout.{readerBytes}
+use Rattle.shelf.specs.Fresh as shelf
+use Rattle.shelf.proofs.Runs.{readingsOf}
+
+-- ---- the controller's calls
+
+-- each call's reply, and its output afterwards
+unfoldable pub repliesOf : List ℕ → List (List ℕ × List ℕ) → List (ℕ × List ℕ)
+repliesOf s [] = []
+repliesOf s (x ∷ xs) =
+    let r : Res = stepOf s (x .0) (x .1) in
+    (r .reply, r .out) ∷ repliesOf (r .state) xs
+
+-- the packets that accepted polls wrote: "Accepted polls write 126 bytes"
+unfoldable pub packetsWritten : List (List ℕ × List ℕ) → List (ℕ × List ℕ) → List (List ℕ)
+packetsWritten [] os = []
+packetsWritten (x ∷ xs) [] = []
+packetsWritten (x ∷ xs) (o ∷ os) =
+    cond (isAccepted (o .0) && isPoll (frameOf (x .0))) (take 126 (o .1) ∷ packetsWritten xs os) (packetsWritten xs os)
+
+-- ---- the reader's calls
+
+-- what was handed out, each with its stream: at its listed length at the output's front
+unfoldable pub handedOut : List (List ℕ × List ℕ) → List (ℕ × List ℕ) → List (ℕ × List ℕ)
+handedOut [] hs = []
+handedOut (x ∷ xs) [] = []
+handedOut (x ∷ xs) (h ∷ hs) =
+    let s : ℕ = be16 (x .0) 6 % 16 in
+    cond (eqb (h .0) 1) ((s, take (listed s) (h .1)) ∷ handedOut xs hs) (handedOut xs hs)
+
+-- of stream s, by a reader that is started on lent bytes and then called
+abbrev pub handedOutOf : ℕ → List ℕ → List (List ℕ × List ℕ) → List (List ℕ)
+handedOutOf s lent given = of s (handedOut given (readingsOf (shelf.startOf lent .state) given))
+
+-- ---- the demand
+
+-- The reader's calls are the frames that arrive, each with an output of 776 bytes or more; `lent` are its bytes.
+abbrev pub Delivered : List (List ℕ × List ℕ) → List Arrival → ℕ → Type 0
+Delivered xs ys s =
+    Quiet ys → Gaps 0 (arrived s ys) → (lent : List ℕ) → readerBytes ≤ length lent → (given : List (List ℕ × List ℕ)) → Framed given
+    → Given ys (calls given)
+    → handedOutOf s lent given ≡ complete (pieces s) 0 (arrived s ys) (of s (sentBy start (calls xs)))
+
+abbrev pub Independent : List Arrival → List Arrival → ℕ → Type 0
+Independent ys zs s =
+    Quiet ys → Quiet zs → ownOf s ys ≡ ownOf s zs → (lent lent′ : List ℕ) → readerBytes ≤ length lent → readerBytes ≤ length lent′
+    → (given given′ : List (List ℕ × List ℕ)) → Framed given → Framed given′ → Given ys (calls given) → Given zs (calls given′)
+    → handedOutOf s lent given ≡ handedOutOf s lent′ given′
+
+-- `xs` are the controller's calls, `calls xs` the same as document 01 sees them. The packets on the way are those that the polls
+-- among them wrote; then as in `Rattle.paper.specs.Demands.Demand3`.
+pub record Demand3 : Type 0 where
+  pub packets : (lent : List ℕ) → stateBytes ≤ length lent → (xs : List (List ℕ × List ℕ)) → Framed xs
+      → packetsWritten xs (repliesOf (startOf lent .state) xs) ≡ map (λ p. p .bytes) (polled (calls xs))
+  pub delivers : (xs : List (List ℕ × List ℕ)) (fates : List Fate) (s : ℕ) → Delivered xs (arrivals (calls xs) fates) s
+  pub always : (xs : List (List ℕ × List ℕ)) (fates : List Fate) (n s : ℕ) → Delivered xs (take n (arrivals (calls xs) fates)) s
+  pub independent : (xs : List (List ℕ × List ℕ)) (fates fates′ : List Fate) (s : ℕ)
+      → Independent (arrivals (calls xs) fates) (arrivals (calls xs) fates′) s

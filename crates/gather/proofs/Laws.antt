@@ -1,0 +1,246 @@
+-- What the functions' contracts rest on: fill bytes one at a time, a packet's marks as bytes, and a move's stores as one call's.
+-- Assumes nothing.
+use mathlib.Core.Path.{_≡_, refl, sym, ap, ap₂, _∙_}
+use mathlib.Core.Bool.{Bool, true, false, _&&_, _||_}
+use mathlib.Core.List.{List, [], _∷_}
+use Prim.Native.Nat.{ℕ, zero, suc, _+_, _-_, _*_, _/_, _%_, _≤_, _<_}
+use native.Mathlib.Nat.{mod-lt, add-zero, zero-add, suc-add}
+use native.Mathlib.Numerals.{add-one}
+use native.Mathlib.Omega.{arith}
+use lib.Dec.{eqb}
+use lib.ListN.{length, getD, take, drop, replicate}
+use lib.Seq.{drop-cons, drop-drop, take-nil}
+use borrow.Author.Tests.{eqb-true, eqb-false, ltb-true, lt-ltb, le-ltb, lt-leb, le-leb}
+use Rattle.wire.specs.Wire.{be16, part, put}
+use Rattle.wire.proofs.Runs.{getD-part, length-put}
+use Rattle.paper.specs.Streams.{pieces, listed, carried}
+use Rattle.paper.specs.Status.{bit}
+use Rattle.paper.specs.Reader.{distance, placed, all99, sound, wellFormed, packetOf}
+use Rattle.state.specs.Told.{Res, res}
+use Rattle.paper.proofs.Table.{Carried, carried-rules}
+use Rattle.track.specs.declared.Track.{Track}
+use Rattle.track.specs.declared.Moved.{Moved}
+use Rattle.track.specs.declared.Move.{Move}
+use Rattle.track.specs.declared.Move.the-variants.{Repeat, Dropped, Kept, Finished}
+use Rattle.track.specs.Moves.{InRange, Right}
+use Rattle.track.proofs.Laws.{right-repeat, right-dropped, right-kept, right-finished}
+use Rattle.track.proofs.Only.{only}
+use Rattle.shelf.specs.Layout.{recordAt, placeAt, markAt, gatherAt, pieceAt, streams, readerBytes}
+use Rattle.shelf.specs.Range.{Fits, Fit, inRange, fit}
+use Rattle.shelf.specs.Received.{recordedOn, gathersOn, readOf}
+use Rattle.shelf.specs.Fresh.{zeros, freshRecords, startedOn}
+use Rattle.shelf.specs.Formed.{handsTo, gathersTo, movesTo, arrivesTo, arrivedTo, understoodTo, formed}
+use Rattle.shelf.proofs.Ranges.{fit-true}
+use Rattle.shelf.proofs.Packets.{long-enough}
+use Rattle.shelf.proofs.Formed.{read-formed}
+
+-- ---- fill bytes
+
+-- the byte at i, then those behind it
+pub one-more : (s : List ℕ) (i to : ℕ) → i < to → to ≤ length s
+    → all99 (part s i (to - i)) ≡ (eqb (getD s i 0) 0x99 && all99 (part s (i + 1) (to - (i + 1))))
+one-more s i to h l =
+    let n : to - i ≡ suc (to - (i + 1)) = omega arith in
+    ap₂ (λ (k : ℕ) (r : List ℕ). all99 (take k r)) n (drop-cons s i 0 (omega arith) ∙ ap (λ (k : ℕ). getD s i 0 ∷ drop k s) (sym (add-one i)))
+
+pub none-left : (s : List ℕ) (i to : ℕ) → to ≤ i → all99 (part s i (to - i)) ≡ true
+none-left s i to h = let n : to - i ≡ 0 = omega arith in rw n
+
+-- ---- a packet's marks
+
+-- opening and closing of a packet of n bytes that stands at an offset, as code tests them
+abbrev pub marked : List ℕ → ℕ → ℕ → Bool
+marked s at n =
+    eqb (getD s at 0) 0x88
+    && (eqb (getD s (at + 1) 0) 0x88 && (eqb (getD s (at + n - 2) 0) 0x99 && eqb (getD s (at + n - 1) 0) 0x99))
+
+chain : (a b c d e : Bool) → (a && (b && (c && (d && e)))) ≡ ((a && (b && (c && d))) && e)
+chain true true true true e = refl
+chain true true true false e = refl
+chain true true false d e = refl
+chain true false c d e = refl
+chain false b c d e = refl
+
+-- what stands behind the first n bytes of a part
+behind : (n m : ℕ) (l : List ℕ) → drop n (take (n + m) l) ≡ take m (drop n l)
+behind zero m l = ap (λ (k : ℕ). take k l) (zero-add m)
+behind (suc n) m [] = rw (suc-add n m) (sym (take-nil m))
+behind (suc n) m (x ∷ l) = rw (suc-add n m) (behind n m l)
+
+module _ (s : List ℕ) (t : ℕ) (c : carried t ≡ true) where
+  r : Carried t
+  r = carried-rules t c
+
+  some : 0 < pieces t
+  some = ltb-true 0 (pieces t) c
+
+  -- "opening, closing or fill bytes", of a packet that stands in the bytes
+  pub sound-bytes : sound t (part s (gatherAt t) (118 * pieces t))
+      ≡ (marked s (gatherAt t) (listed t)
+      && all99 (part s (gatherAt t + listed t) (gatherAt t + 118 * pieces t - (gatherAt t + listed t))))
+  unfolding sound
+  sound-bytes =
+      let g : ℕ = gatherAt t in
+      let n : ℕ = 118 * pieces t in
+      let l : ℕ = listed t in
+      let most : l ≤ n = omega (arith, r .fits) in
+      let byte : (j : ℕ) → j < n → getD (part s g n) j 0 ≡ getD s (g + j) 0 = getD-part s g n in
+      let a : getD (part s g n) 0 0 ≡ getD s g 0 = byte 0 (omega (arith, some)) ∙ ap (λ (k : ℕ). getD s k 0) (add-zero g) in
+      let b : getD (part s g n) 1 0 ≡ getD s (g + 1) 0 = byte 1 (omega (arith, some)) in
+      let d : getD (part s g n) (l - 2) 0 ≡ getD s (g + l - 2) 0 =
+      byte (l - 2) (omega (arith, r .long)) ∙ ap (λ (k : ℕ). getD s k 0) (let z : g + (l - 2) ≡ g + l - 2 = omega (arith, r .long) in z) in
+      let e : getD (part s g n) (l - 1) 0 ≡ getD s (g + l - 1) 0 =
+      byte (l - 1) (omega (arith, r .long)) ∙ ap (λ (k : ℕ). getD s k 0) (let z : g + (l - 1) ≡ g + l - 1 = omega (arith, r .long) in z) in
+      let rest : drop l (part s g n) ≡ part s (g + l) (g + n - (g + l)) =
+      ap (λ (k : ℕ). drop l (take k (drop g s))) (let z : n ≡ l + (g + n - (g + l)) = omega arith in z)
+      ∙ behind l (g + n - (g + l)) (drop g s)
+      ∙ ap (take (g + n - (g + l))) (drop-drop l g s) in
+      rw (a, b, d, e, rest)
+      (chain (eqb (getD s g 0) 0x88) (eqb (getD s (g + 1) 0) 0x88) (eqb (getD s (g + l - 2) 0) 0x99) (eqb (getD s (g + l - 1) 0) 0x99)
+      (all99 (part s (g + l) (g + n - (g + l)))))
+
+-- ---- fresh records
+
+-- zeros, then the records
+pub started-by : (s x y : List ℕ) → x ≡ put s 0 (replicate 9960 0) → y ≡ put x 0 (freshRecords 0 streams) → y ≡ startedOn s
+unfolding startedOn zeros
+started-by s x y e h = h ∙ ap (λ (z : List ℕ). put z 0 (freshRecords 0 streams)) e
+
+-- ---- the stores of a move
+
+-- the bytes are as long with a body stored
+pub kept-whole : (s y x : List ℕ) (t place : ℕ) → y ≡ put s (pieceAt t place) x → readerBytes ≤ length s → t < streams → place < 7
+    → length x ≡ 118 → readerBytes ≤ length y
+kept-whole s y x t place e w l k h = omega (arith, ap length e ∙ length-put s (pieceAt t place) x (omega arith))
+
+module _ (s : List ℕ) (t : ℕ) (f : Fits s t) (c : carried t ≡ true) (count : ℕ) (small : count < 4096) where
+  -- the record that the bytes hold
+  abbrev pub found : Track
+  found = record { last = be16 s (recordAt t); place = getD s (placeAt t) 0; running = eqb (getD s (markAt t) 0) 1 }
+
+  pub ok : InRange found (pieces t) count
+  ok = record { some = ltb-true 0 (pieces t) c; place = f .place; last = f .last; count = small }
+
+  abbrev d : ℕ
+  d = distance (be16 s (recordAt t)) count
+
+  abbrev place : ℕ
+  place = placed (pieces t) (getD s (placeAt t) 0) d
+
+  abbrev goesOn : Bool
+  goesOn = eqb d 1 && eqb (getD s (markAt t) 0) 1
+
+  below : place < pieces t
+  below = mod-lt (getD s (placeAt t) 0 + d) (ok .some)
+
+  module _ (x o : List ℕ) where
+    -- the record anew
+    abbrev pub noted : List ℕ → Track → List ℕ
+    noted y u = recordedOn y t (u .last) (u .place) (bit (u .running))
+
+    -- the body at its place
+    abbrev pub kept : Track → List ℕ
+    kept u = put s (pieceAt t (u .place)) x
+
+    abbrev pub stores : Move → Track → Res
+    stores Repeat u = res 22 o s
+    stores Dropped u = res 0 o (noted s u)
+    stores Kept u = res 0 o (noted (kept u) u)
+    stores Finished u = handsTo (noted (kept u) u) t o
+
+    gathered : (anew goes : Bool) → (anew || goes) ≡ true → (atLast : Bool)
+        → movesTo s t anew goes atLast count place x o ≡ gathersTo s t atLast count place x o
+    gathered true goes e atLast = refl
+    gathered false true e atLast = refl
+    gathered false false e atLast = cc
+
+    dropped : (anew goes : Bool) → (anew || goes) ≡ false → (atLast : Bool)
+        → movesTo s t anew goes atLast count place x o ≡ res 0 o (recordedOn s t count place 0)
+    dropped true goes e atLast = cc
+    dropped false true e atLast = cc
+    dropped false false e atLast = refl
+
+    module _ (m : Moved) (right : Right found (pieces t) count m) where
+      same : (n : Moved) → Right found (pieces t) count n → (y : Res) → y ≡ stores (n .step) (n .track) → y ≡ stores (m .step) (m .track)
+      same n right′ y e = rw (only found (pieces t) count m n right right′) e
+
+      decided : (a b l : Bool) → eqb d 0 ≡ a → (eqb place 0 || goesOn) ≡ b → eqb place (pieces t - 1) ≡ l
+          → arrivesTo s t a count d x o ≡ stores (m .step) (m .track)
+      unfolding gathersOn
+      decided true b l p q e = same _ (right-repeat found (pieces t) count d refl ok (eqb-true d 0 p)) _ refl
+      decided false false l p q e =
+          same _ (right-dropped found (pieces t) count d place refl refl ok below (eqb-false d 0 p) q) _
+          (dropped (eqb place 0) goesOn q (eqb place (pieces t - 1)))
+      decided false true false p q e =
+          same _ (right-kept found (pieces t) count d place refl refl ok below (eqb-false d 0 p) q (eqb-false place (pieces t - 1) e)) _
+          (gathered (eqb place 0) goesOn q (eqb place (pieces t - 1)) ∙ rw e)
+      decided false true true p q e =
+          same _ (right-finished found (pieces t) count d place refl refl ok below (eqb-false d 0 p) q (eqb-true place (pieces t - 1) e)) _
+          (gathered (eqb place 0) goesOn q (eqb place (pieces t - 1)) ∙ rw e)
+
+      move-stores : (k : Move) → m .step ≡ k → stores k (m .track) ≡ arrivedTo s t count x o
+      unfolding arrivedTo
+      move-stores k e = sym (decided _ _ _ refl refl refl ∙ ap (λ (j : Move). stores j (m .track)) e)
+
+      -- what each arm of the code leaves
+      pub repeat-arm : m .step ≡ Repeat → res 22 o s ≡ arrivedTo s t count x o
+      repeat-arm = move-stores Repeat
+
+      pub dropped-arm : m .step ≡ Dropped → (z : List ℕ) → z ≡ noted s (m .track) → res 0 o z ≡ arrivedTo s t count x o
+      dropped-arm e z h = ap (res 0 o) h ∙ move-stores Dropped e
+
+      both-stores : (y z : List ℕ) → y ≡ kept (m .track) → z ≡ noted y (m .track) → z ≡ noted (kept (m .track)) (m .track)
+      both-stores y z g h = h ∙ ap (λ (v : List ℕ). noted v (m .track)) g
+
+      pub kept-arm : m .step ≡ Kept → (y z : List ℕ) → y ≡ kept (m .track) → z ≡ noted y (m .track) → res 0 o z ≡ arrivedTo s t count x o
+      kept-arm e y z g h = ap (res 0 o) (both-stores y z g h) ∙ move-stores Kept e
+
+      pub finished-arm : m .step ≡ Finished → (y z : List ℕ) → y ≡ kept (m .track) → z ≡ noted y (m .track) → (w : Res) → w ≡ handsTo z t o
+          → w ≡ arrivedTo s t count x o
+      finished-arm e y z g h w i = i ∙ ap (λ (v : List ℕ). handsTo v t o) (both-stores y z g h) ∙ move-stores Finished e
+
+-- ---- the tests of a call
+
+-- the code's tests in their order, each with what is left where it is the first that applies
+module _ (s f o : List ℕ) where
+  pub too-short : length s < readerBytes → res 25 o s ≡ readOf s f o
+  unfolding formed fit
+  too-short h = sym (read-formed s f o ∙ rw (lt-leb _ _ h))
+
+  module _ (w : readerBytes ≤ length s) where
+    pub out-of-range : inRange s ≡ false → res 25 o s ≡ readOf s f o
+    unfolding formed fit
+    out-of-range h = sym (read-formed s f o ∙ rw (le-leb _ _ w, h))
+
+    module _ (h : inRange s ≡ true) where
+      fits : fit s ≡ true
+      unfolding fit
+      fits = rw (le-leb _ _ w, h)
+
+      pub in-order : Fit s
+      in-order = fit-true s fits
+
+      pub no-room : length o < 776 → res 24 o s ≡ readOf s f o
+      unfolding formed
+      no-room l = sym (read-formed s f o ∙ rw (fits, lt-ltb _ _ l))
+
+      module _ (l : 776 ≤ length o) where
+        known : readOf s f o ≡ understoodTo s (packetOf f) o
+        unfolding formed
+        known = read-formed s f o ∙ rw (fits, le-ltb _ _ l)
+
+        pub no-packet : wellFormed f ≡ false → res 20 o s ≡ readOf s f o
+        unfolding packetOf understoodTo
+        no-packet e = sym (known ∙ rw e)
+
+        module _ (e : wellFormed f ≡ true) where
+          pub long : length f ≡ 126
+          long = long-enough f e
+
+          pub not-carried : carried (be16 f 6 % 16) ≡ false → res 21 o s ≡ readOf s f o
+          unfolding packetOf understoodTo
+          not-carried c = sym (known ∙ rw (e, c))
+
+          pub arrival : carried (be16 f 6 % 16) ≡ true → (r : Res) → r ≡ arrivedTo s (be16 f 6 % 16) (be16 f 6 / 16) (drop 8 f) o → r ≡ readOf s f o
+          unfolding packetOf understoodTo
+          arrival c r q = q ∙ sym (known ∙ rw (e, c))

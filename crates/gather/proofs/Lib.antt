@@ -1,0 +1,2 @@
+-- Proofs about the reader on lent bytes.
+pub mod Laws

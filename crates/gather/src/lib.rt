@@ -1,0 +1,237 @@
+// The reader on lent bytes: start, and one packet.
+use streams::CLOSING;
+use streams::OPENING;
+use track::Move;
+use track::Track;
+ghost use mathlib.Core.Path.{_≡_};
+ghost use mathlib.Core.Bool.{true};
+ghost use Prim.Native.Nat.{_+_, _*_, _-_, _<_, _≤_};
+ghost use lib.ListN.{length, drop};
+ghost use Rattle.wire.specs.Wire.{part, put};
+ghost use Rattle.paper.specs.Streams as Streams;
+ghost use Rattle.paper.specs.Reader as Reader;
+ghost use Rattle.paper.specs.Status.{bit};
+ghost use Rattle.state.specs.Told.{told, res};
+ghost use Rattle.shelf.specs.Layout.{gatherAt, readerBytes};
+ghost use Rattle.shelf.specs.Range as Range;
+ghost use Rattle.shelf.specs.Fresh.{startedOn, startOf};
+ghost use Rattle.shelf.specs.Received.{recordedOn, readOf};
+ghost use Rattle.shelf.specs.Formed.{handsTo, arrivedTo};
+
+// The records of streams 0 to 11, fresh: last count 4095, the last place, no gathering.
+const FRESH: [u8; 48] = [
+    0x0F,
+    0xFF,
+    0,
+    0,
+    0x0F,
+    0xFF,
+    0,
+    0,
+    0x0F,
+    0xFF,
+    6,
+    0,
+    0x0F,
+    0xFF,
+    0,
+    0,
+    0x0F,
+    0xFF,
+    0,
+    0,
+    0x0F,
+    0xFF,
+    0,
+    0,
+    0x0F,
+    0xFF,
+    0,
+    0,
+    0x0F,
+    0xFF,
+    0,
+    0,
+    0x0F,
+    0xFF,
+    0,
+    0,
+    0x0F,
+    0xFF,
+    0,
+    0,
+    0x0F,
+    0xFF,
+    0,
+    0,
+    0x0F,
+    0xFF,
+    4,
+    0,
+];
+
+// Whether the numbers of a stream's record are in range.
+fn track_fits(s: &[u8], stream: u8) -> bool
+    requires { ⌜ (readerBytes ≤ length (now s)) × (stream < 12) ⌝ }
+    ensures { λ r. ⌜ r ≡ Range.trackFits (now (s .entry)) stream ⌝ }
+{
+    let at = 4 * wire::size(stream);
+    (wire::get16(s, at) < 4096)
+        & ((wire::size(s[at + 2]) < streams::pieces(stream)) & (s[at + 3] <= 1))
+}
+
+// Whether every carried stream's are.
+fn in_range(s: &[u8]) -> bool
+    requires { ⌜ readerBytes ≤ length (now s) ⌝ }
+    ensures { λ r. ⌜ r ≡ Range.inRange (now (s .entry)) ⌝ }
+{
+    track_fits(s, 2)
+        & (track_fits(s, 4)
+            & (track_fits(s, 5)
+                & (track_fits(s, 6)
+                    & (track_fits(s, 9) & (track_fits(s, 10) & track_fits(s, 11))))))
+}
+
+// Fresh bytes: 0, or 25 where they are too few.
+pub fn start(s: &mut [u8]) -> u8
+    ensures { λ r. ⌜ told r (now (s .exit)) ≡ startOf (now (s .entry)) ⌝ }
+{
+    if s.len() < 9960 {
+        return 25;
+    }
+    wire::fill(s, 0, 9960, 0);
+    wire::copy_to(s, 0, &FRESH);
+    0
+}
+
+// A packet's size, ID, top two sequence bits and length.
+fn well_formed(f: &[u8]) -> bool
+    ensures { λ r. ⌜ r ≡ Reader.wellFormed (now (f .entry)) ⌝ }
+{
+    if f.len() != 126 {
+        return false;
+    }
+    let id = wire::get16(f, 0);
+    ((id == 0x0F94) | (id == 0x0FB4)) & ((f[2] / 64 == 3) & (wire::get16(f, 4) == 0x0077))
+}
+
+// Whether the bytes from one offset up to another are fill.
+fn filled(s: &[u8], from: usize, to: usize) -> bool
+    requires { ⌜ (from ≤ to) × (to ≤ length (now s)) ⌝ }
+    ensures { λ r. ⌜ r ≡ Reader.all99 (part (now (s .entry)) from (to - from)) ⌝ }
+{
+    let mut i = from;
+    while i < to {
+        if s[i] != 0x99 {
+            return false;
+        }
+        i += 1;
+    }
+    true
+}
+
+// Whether opening, closing and fill bytes of a stream's whole packet are right.
+fn sound(s: &[u8], stream: u8) -> bool
+    requires { ⌜ (readerBytes ≤ length (now s)) × (Streams.carried stream ≡ true) ⌝ }
+    ensures { λ r. ⌜ r ≡ Reader.sound stream (part (now (s .entry)) (gatherAt stream) (118 * Streams.pieces stream)) ⌝ }
+{
+    let at = 48 + 826 * wire::size(stream);
+    let end = at + wire::size16(streams::listed(stream));
+    let marks = (s[at] == OPENING[0])
+        & ((s[at + 1] == OPENING[1]) & ((s[end - 2] == CLOSING[0]) & (s[end - 1] == CLOSING[1])));
+    if !marks {
+        return false;
+    }
+    filled(s, end, at + 118 * streams::pieces(stream))
+}
+
+// The record of a stream, anew.
+fn note(s: &mut [u8], stream: u8, t: Track)
+    requires { ⌜ (readerBytes ≤ length (now s)) × (stream < 12) ⌝ }
+    ensures { λ _. ⌜ now (s .exit) ≡ recordedOn (now (s .entry)) stream (t .last) (t .place) (bit (t .running)) ⌝ }
+{
+    let at = 4 * wire::size(stream);
+    let mark = t.running as u8;
+    let run = [wire::hi(t.last), wire::lo(t.last), t.place, mark];
+    wire::copy_to(s, at, &run);
+}
+
+// The body of a packet stands at its place.
+fn keep(s: &mut [u8], stream: u8, place: u8, f: &[u8])
+    requires { ⌜ (readerBytes ≤ length (now s)) × (stream < 12) × (place < 7) × (length (now f) ≡ 126) ⌝ }
+    ensures { λ _. ⌜ now (s .exit) ≡ put (now (s .entry)) (gatherAt stream + 118 * place) (drop 8 (now (f .entry))) ⌝ }
+{
+    wire::copy_part(
+        s,
+        48 + 826 * wire::size(stream) + 118 * wire::size(place),
+        f,
+        8,
+        118,
+    );
+}
+
+// A whole packet is handed out at its listed length, or refused with 23.
+fn hand_out(s: &[u8], stream: u8, out: &mut [u8]) -> u8
+    requires { ⌜ (readerBytes ≤ length (now s)) × (Streams.carried stream ≡ true) × (776 ≤ length (now out)) ⌝ }
+    ensures { λ r. ⌜ res r (now (out .exit)) (now (s .entry)) ≡ handsTo (now (s .entry)) stream (now (out .entry)) ⌝ }
+{
+    if !sound(s, stream) {
+        return 23;
+    }
+    let n = wire::size16(streams::listed(stream));
+    wire::copy_part(out, 0, s, 48 + 826 * wire::size(stream), n);
+    1
+}
+
+// The reply to a packet of a carried stream.
+fn receive(s: &mut [u8], stream: u8, count: u16, f: &[u8], out: &mut [u8]) -> u8
+    requires { ⌜ (Range.Fit (now s)) × (Streams.carried stream ≡ true) × (count < 4096) × (length (now f) ≡ 126) × (776 ≤ length (now out)) ⌝ }
+    ensures { λ r. ⌜ res r (now (out .exit)) (now (s .exit)) ≡ arrivedTo (now (s .entry)) stream count (drop 8 (now (f .entry))) (now (out .entry)) ⌝ }
+{
+    let at = 4 * wire::size(stream);
+    let pieces = streams::pieces(stream) as u8;
+    let m = track::advance(wire::get16(s, at), s[at + 2], s[at + 3] == 1, pieces, count);
+    let t = m.track;
+    let step = m.step;
+    match step {
+        Move::Repeat => 22,
+        Move::Dropped => {
+            note(s, stream, t);
+            0
+        }
+        Move::Kept => {
+            keep(s, stream, t.place, f);
+            note(s, stream, t);
+            0
+        }
+        Move::Finished => {
+            keep(s, stream, t.place, f);
+            note(s, stream, t);
+            hand_out(s, stream, out)
+        }
+    }
+}
+
+// The reply to a packet.
+pub fn packet(s: &mut [u8], f: &[u8], out: &mut [u8]) -> u8
+    ensures { λ r. ⌜ res r (now (out .exit)) (now (s .exit)) ≡ readOf (now (s .entry)) (now (f .entry)) (now (out .entry)) ⌝ }
+{
+    if s.len() < 9960 {
+        return 25;
+    }
+    if !in_range(s) {
+        return 25;
+    }
+    if out.len() < 776 {
+        return 24;
+    }
+    if !well_formed(f) {
+        return 20;
+    }
+    let tag = wire::get16(f, 6);
+    let stream = (tag % 16) as u8;
+    if !streams::carried(stream) {
+        return 21;
+    }
+    receive(s, stream, tag / 16, f, out)
+}
