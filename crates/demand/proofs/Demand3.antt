@@ -17,7 +17,7 @@ use Rattle.paper.specs.Reader.{readerStart}
 use Rattle.paper.specs.Runs.{replies, readings}
 use Rattle.paper.specs.History.{isAccepted}
 use Rattle.paper.specs.Demands as paper
-use Rattle.paper.specs.Demands.{isPoll, polled, pollOutputs, of}
+use Rattle.paper.specs.Demands.{isPoll, polled, pollOutputs, Arrival, of}
 use Rattle.paper.proofs.Kept.{Kept, kept-start, kept-step, written, writes}
 use Rattle.paper.proofs.Handing.{AtLength, handed-length}
 use Rattle.paper.proofs.Demand3.{demand3}
@@ -27,11 +27,14 @@ use Rattle.state.specs.Range.{Fit}
 use Rattle.state.specs.Fresh.{startedOn}
 use Rattle.machine.specs.Called.{stepOf, startOf}
 use Rattle.machine.proofs.Fresh.{start-view, start-fit}
-use Rattle.machine.proofs.Steps.{calls, Framed, Agrees, steps}
+use Rattle.machine.specs.Runs.{Agrees, repliesOf}
+use Rattle.machine.proofs.Steps.{steps}
+use Rattle.state.specs.Calls.{Framed, calls, fronts}
 use Rattle.shelf.specs.Layout.{readerBytes}
 use Rattle.shelf.specs.Fresh as shelf
-use Rattle.shelf.proofs.Runs.{readingsOf, fronts, started-readings}
-use Rattle.demand.specs.Demands.{repliesOf, packetsWritten, handedOut, handedOutOf, Demand3}
+use Rattle.shelf.specs.Runs.{readingsOf}
+use Rattle.shelf.proofs.Runs.{started-readings}
+use Rattle.demand.specs.Demands.{packetsWritten, handedOut, handsOut, Called, Delivered, InOrder, Independent, Demand3}
 
 -- bytes at an output's front are there
 front : (o v : List ℕ) (n : ℕ) → length v ≡ n → take n (put o 0 v) ≡ v
@@ -116,28 +119,37 @@ handed-as (x ∷ xs) (h ∷ hs) l = by (eqb (h .0) 1) l (λ m. handed-as xs hs m
     by false m ih = ih m
 
 -- what is handed out on bytes is what document 01's reader hands out
-handed-is : (s : ℕ) (lent : List ℕ) → readerBytes ≤ length lent → (given : List (List ℕ × List ℕ)) → Framed given
-    → handedOutOf s lent given ≡ paper.handedOutOf s (calls given)
-handed-is s lent h given f =
-    ap (λ (b : List ℕ). of s (handedOut given (readingsOf b given))) (reader-started lent h)
-    ∙ ap (λ r. of s (handedOut given r)) (started-readings lent h given f)
-    ∙ ap (of s) (handed-as given (readings readerStart (calls given)) (handed-length (calls given)))
+handed-is : (ys : List Arrival) (lent : List ℕ) (given : List (List ℕ × List ℕ)) → Called ys lent given
+    → handsOut lent given ≡ paper.handsOut (calls given)
+handed-is ys lent given k =
+    ap (λ (b : List ℕ). handedOut given (readingsOf b given)) (reader-started lent (k .long))
+    ∙ ap (handedOut given) (started-readings lent (k .long) given (k .bytes))
+    ∙ handed-as given (readings readerStart (calls given)) (handed-length (calls given))
 
 -- ---- the demand
+
+-- of any arrivals, what document 01's reader does is done on bytes
+delivered : (xs : List (List ℕ × List ℕ)) (ys : List Arrival) (s : ℕ) → paper.Delivered (calls xs) ys s → Delivered xs ys s
+delivered xs ys s h quiet gaps lent given k =
+    ap (of s) (handed-is ys lent given k) ∙ h quiet gaps (calls given) (k .frames)
+
+in-order : (xs : List (List ℕ × List ℕ)) (ys : List Arrival) → paper.InOrder (calls xs) ys → InOrder xs ys
+in-order xs ys h quiet gaps lent given k = handed-is ys lent given k ∙ h quiet gaps (calls given) (k .frames)
+
+independent : (ys zs : List Arrival) (s : ℕ) → paper.Independent ys zs s → Independent ys zs s
+independent ys zs s h q q′ e lent lent′ given given′ k k′ =
+    ap (of s) (handed-is ys lent given k)
+    ∙ h q q′ e (calls given) (calls given′) (k .frames) (k′ .frames)
+    ∙ sym (ap (of s) (handed-is zs lent′ given′ k′))
 
 pub demand3-calls : Demand3
 demand3-calls =
     record {
       packets = packets;
-      delivers =
-          λ xs fates s quiet gaps lent h given f g.
-          handed-is s lent h given f ∙ demand3 .delivers (calls xs) fates s quiet gaps (calls given) g;
+      delivers = λ xs fates s. delivered xs _ s (demand3 .delivers (calls xs) fates s);
+      in-order = λ xs fates. in-order xs _ (demand3 .in-order (calls xs) fates);
       always =
-          λ xs fates n s quiet gaps lent h given f g.
-          handed-is s lent h given f ∙ demand3 .always (calls xs) fates n s quiet gaps (calls given) g;
-      independent =
-          λ xs fates fates′ s q q′ e lent lent′ h h′ given given′ f f′ g g′.
-          handed-is s lent h given f
-          ∙ demand3 .independent (calls xs) fates fates′ s q q′ e (calls given) (calls given′) g g′
-          ∙ sym (handed-is s lent′ h′ given′ f′);
+          λ xs fates n.
+          ((λ s. delivered xs _ s (demand3 .always (calls xs) fates n .0 s)), in-order xs _ (demand3 .always (calls xs) fates n .1));
+      independent = λ xs fates fates′ s. independent _ _ s (demand3 .independent (calls xs) fates fates′ s);
     }

@@ -1,2 +1,4 @@
--- Demand 3 about calls holds.
+-- The three demands hold.
+pub mod Demand1
+pub mod Demand2
 pub mod Demand3

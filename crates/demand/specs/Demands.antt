@@ -12,26 +12,18 @@ use lib.Dec.{eqb}
 use lib.ListN.{length, take}
 use Rattle.wire.specs.Wire.{be16}
 use Rattle.paper.specs.Frames.{frameOf}
-use Rattle.paper.specs.Streams.{pieces, listed}
-use Rattle.paper.specs.Controller.{start}
-use Rattle.paper.specs.History.{isAccepted, sentBy}
-use Rattle.paper.specs.Demands.{isPoll, polled, Fate, Arrival, arrivals, Quiet, ownOf, arrived, Gaps, Given, of, complete}
+use Rattle.paper.specs.Streams.{listed}
+use Rattle.paper.specs.History.{isAccepted}
+use Rattle.paper.specs.Demands.{isPoll, polled, Fate, Arrival, arrivals, Quiet, ownOf, arrived, Gaps, Given, of, arrivedWhole}
 use Rattle.state.specs.Layout.{stateBytes}
-use Rattle.state.specs.Told.{Res}
-use Rattle.machine.specs.Called.{stepOf, startOf}
-use Rattle.machine.proofs.Steps.{calls, Framed}
+use Rattle.state.specs.Calls.{Framed, calls}
+use Rattle.machine.specs.Called.{startOf}
+use Rattle.machine.specs.Runs.{repliesOf}
 use Rattle.shelf.specs.Layout.{readerBytes}
 use Rattle.shelf.specs.Fresh as shelf
-use Rattle.shelf.proofs.Runs.{readingsOf}
+use Rattle.shelf.specs.Runs.{readingsOf}
 
 -- ---- the controller's calls
-
--- each call's reply, and its output afterwards
-unfoldable pub repliesOf : List ℕ → List (List ℕ × List ℕ) → List (ℕ × List ℕ)
-repliesOf s [] = []
-repliesOf s (x ∷ xs) =
-    let r : Res = stepOf s (x .0) (x .1) in
-    (r .reply, r .out) ∷ repliesOf (r .state) xs
 
 -- the packets that accepted polls wrote: "Accepted polls write 126 bytes"
 unfoldable pub packetsWritten : List (List ℕ × List ℕ) → List (ℕ × List ℕ) → List (List ℕ)
@@ -50,31 +42,42 @@ handedOut (x ∷ xs) (h ∷ hs) =
     let s : ℕ = be16 (x .0) 6 % 16 in
     cond (eqb (h .0) 1) ((s, take (listed s) (h .1)) ∷ handedOut xs hs) (handedOut xs hs)
 
--- of stream s, by a reader that is started on lent bytes and then called
-abbrev pub handedOutOf : ℕ → List ℕ → List (List ℕ × List ℕ) → List (List ℕ)
-handedOutOf s lent given = of s (handedOut given (readingsOf (shelf.startOf lent .state) given))
+-- by a reader that is started on lent bytes and then called
+abbrev pub handsOut : List ℕ → List (List ℕ × List ℕ) → List (ℕ × List ℕ)
+handsOut lent given = handedOut given (readingsOf (shelf.startOf lent .state) given)
 
 -- ---- the demand
 
--- The reader's calls are the frames that arrive, each with an output of 776 bytes or more; `lent` are its bytes.
+-- The reader's calls: the frames that arrive, each with an output of 776 bytes or more; `lent` are the reader's bytes.
+pub record Called (ys : List Arrival) (lent : List ℕ) (given : List (List ℕ × List ℕ)) : Type 0 where
+  pub long : readerBytes ≤ length lent
+  pub bytes : Framed given
+  pub frames : Given ys (calls given)
+
+-- `xs` are the controller's calls, and `calls xs` the same as document 01 sees them.
 abbrev pub Delivered : List (List ℕ × List ℕ) → List Arrival → ℕ → Type 0
 Delivered xs ys s =
-    Quiet ys → Gaps 0 (arrived s ys) → (lent : List ℕ) → readerBytes ≤ length lent → (given : List (List ℕ × List ℕ)) → Framed given
-    → Given ys (calls given)
-    → handedOutOf s lent given ≡ complete (pieces s) 0 (arrived s ys) (of s (sentBy start (calls xs)))
+    Quiet ys → Gaps 0 (arrived s ys) → (lent : List ℕ) (given : List (List ℕ × List ℕ)) → Called ys lent given
+    → of s (handsOut lent given) ≡ of s (arrivedWhole (calls xs) ys)
+
+abbrev pub InOrder : List (List ℕ × List ℕ) → List Arrival → Type 0
+InOrder xs ys =
+    Quiet ys → ((s : ℕ) → Gaps 0 (arrived s ys)) → (lent : List ℕ) (given : List (List ℕ × List ℕ)) → Called ys lent given
+    → handsOut lent given ≡ arrivedWhole (calls xs) ys
 
 abbrev pub Independent : List Arrival → List Arrival → ℕ → Type 0
 Independent ys zs s =
-    Quiet ys → Quiet zs → ownOf s ys ≡ ownOf s zs → (lent lent′ : List ℕ) → readerBytes ≤ length lent → readerBytes ≤ length lent′
-    → (given given′ : List (List ℕ × List ℕ)) → Framed given → Framed given′ → Given ys (calls given) → Given zs (calls given′)
-    → handedOutOf s lent given ≡ handedOutOf s lent′ given′
+    Quiet ys → Quiet zs → ownOf s ys ≡ ownOf s zs → (lent lent′ : List ℕ) (given given′ : List (List ℕ × List ℕ))
+    → Called ys lent given → Called zs lent′ given′ → of s (handsOut lent given) ≡ of s (handsOut lent′ given′)
 
--- `xs` are the controller's calls, `calls xs` the same as document 01 sees them. The packets on the way are those that the polls
--- among them wrote; then as in `Rattle.paper.specs.Demands.Demand3`.
+-- The packets on the way are those that the polls among the controller's calls wrote into their outputs, whatever bytes are lent to
+-- it; then as in `Rattle.paper.specs.Demands.Demand3`.
 pub record Demand3 : Type 0 where
   pub packets : (lent : List ℕ) → stateBytes ≤ length lent → (xs : List (List ℕ × List ℕ)) → Framed xs
       → packetsWritten xs (repliesOf (startOf lent .state) xs) ≡ map (λ p. p .bytes) (polled (calls xs))
   pub delivers : (xs : List (List ℕ × List ℕ)) (fates : List Fate) (s : ℕ) → Delivered xs (arrivals (calls xs) fates) s
-  pub always : (xs : List (List ℕ × List ℕ)) (fates : List Fate) (n s : ℕ) → Delivered xs (take n (arrivals (calls xs) fates)) s
+  pub in-order : (xs : List (List ℕ × List ℕ)) (fates : List Fate) → InOrder xs (arrivals (calls xs) fates)
+  pub always : (xs : List (List ℕ × List ℕ)) (fates : List Fate) (n : ℕ)
+      → ((s : ℕ) → Delivered xs (take n (arrivals (calls xs) fates)) s) × InOrder xs (take n (arrivals (calls xs) fates))
   pub independent : (xs : List (List ℕ × List ℕ)) (fates fates′ : List Fate) (s : ℕ)
       → Independent (arrivals (calls xs) fates) (arrivals (calls xs) fates′) s

@@ -1,1 +1,1 @@
-// Demand 3 about calls on lent bytes, in specs/, and its proof. No code.
+// The three demands about calls on lent bytes, in specs/, and their proofs. No code.

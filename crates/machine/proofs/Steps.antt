@@ -17,27 +17,29 @@ use Rattle.paper.specs.Streams.{rowOf, width}
 use Rattle.paper.specs.Controller.{Controller, start}
 use Rattle.paper.specs.Acts.{moved, noted, obeyed, performed, accepted, answer}
 use Rattle.paper.specs.Step.{holds, reply, isError, queues, lateHeard, erred, refused, Outcome, outcome, replied, step}
-use Rattle.paper.specs.Runs.{Call, call, runs}
-use Rattle.paper.specs.History.{history, sentBy}
-use Rattle.paper.proofs.History.{Counted, counted}
+use Rattle.paper.specs.Runs.{runs}
+use Rattle.paper.specs.History.{history, sentBy, Counted}
+use Rattle.paper.proofs.History.{counted}
 use Rattle.paper.proofs.Shapes.{Rows, through}
 use Rattle.paper.proofs.Refusals.{Passed, passed}
 use Rattle.state.specs.Layout.{stateBytes, housedAt, waitingAt, broadcastsAt}
 use Rattle.state.specs.View.{view}
 use Rattle.state.specs.Range.{Fit, fit}
 use Rattle.state.specs.Fresh.{startedOn}
-use Rattle.state.specs.Told.{Res, res}
+use Rattle.state.specs.Told.{res}
+use Rattle.state.specs.Calls.{Bytes, Framed, calls}
 use Rattle.state.proofs.Ranges.{fit-true, true-fit}
 use Rattle.machine.specs.Heard.{heardOn, movedOn}
 use Rattle.machine.specs.Entered.{raisedOn}
 use Rattle.machine.specs.Obeyed.{notedOn, erredOn, performedOn}
 use Rattle.machine.specs.Called.{actedOn, refusedOn, repliedOn, stepOf}
+use Rattle.machine.specs.Runs.{Agrees, runOf}
 use Rattle.machine.proofs.Queue.{queue-length}
 use Rattle.machine.proofs.Counts.{late-view, late-fit, noted-view, noted-fit, erred-view, erred-fit, housed-view, housed-fit}
 use Rattle.machine.proofs.Broadcasts.{heard-view, heard-fit, moved-view, moved-fit}
 use Rattle.machine.proofs.Orders.{obeyed-view}
 use Rattle.machine.proofs.Ticks.{ticked-view}
-use Rattle.machine.proofs.Samples.{Bytes, slots-free, sampled-view}
+use Rattle.machine.proofs.Samples.{slots-free, sampled-view}
 use Rattle.machine.proofs.Polls.{polled-view}
 use Rattle.machine.proofs.Fresh.{start-view, start-fit}
 
@@ -174,14 +176,6 @@ module _ (s : List ℕ) (f : Fit s) where
 
 -- ---- one call
 
--- What a call on bytes came to, and an outcome of document 01, with the output o that was lent: the same reply; the outcome's bytes
--- at the output's front, the rest as it was; bytes that hold the controller that is left, and fit.
-pub record Agrees (r : Res) (p : Outcome) (o : List ℕ) : Type 0 where
-  pub reply : r .reply ≡ p .reply
-  pub out : r .out ≡ put o 0 (p .out)
-  pub held : view (r .state) ≡ p .next
-  pub fits : Fit (r .state)
-
 -- one call is one step
 pub steps : (s f o : List ℕ) → Fit s → Bytes f → Agrees (stepOf s f o) (step (view s) f (length o)) o
 unfolding stepOf repliedOn step replied
@@ -204,21 +198,6 @@ steps s f o g b = rw (true-fit s g) (at n refl (eqb n 0) refl)
         record { reply = refl; out = refl; held = left .0; fits = left .1 }
 
 -- ---- runs
-
--- calls one after the other, each with a frame and the output that is lent with it: the bytes that are left
-unfoldable pub runOf : List ℕ → List (List ℕ × List ℕ) → List ℕ
-runOf s [] = s
-runOf s (x ∷ xs) = runOf (stepOf s (x .0) (x .1) .state) xs
-
--- the same calls as document 01 sees them
-abbrev pub calls : List (List ℕ × List ℕ) → List Call
-calls [] = []
-calls (x ∷ xs) = call (x .0) (length (x .1)) ∷ calls xs
-
--- frames are of bytes
-abbrev pub Framed : List (List ℕ × List ℕ) → Type 0
-Framed [] = Unit {0}
-Framed (x ∷ xs) = Bytes (x .0) × Framed xs
 
 pub runs-view : (xs : List (List ℕ × List ℕ)) (s : List ℕ) → Fit s → Framed xs → Holds (runOf s xs) (runs (view s) (calls xs))
 unfolding runOf runs

@@ -1,6 +1,7 @@
 -- The byte machine: what each call does to the lent bytes, store by store. Every store is said as `put`: a run of bytes is there,
 -- and the rest is as it was. Beneath: queuing and clearing (Stores), packets built and queued (Built), entries (Entered). A module
--- for each kind of frame: Heard, Obeyed, Ticked, Sampled, Polled. One call: Called.
+-- for each kind of frame: Heard, Obeyed, Ticked, Sampled, Polled. One call: Called;
+-- calls one after the other: Runs.
 pub mod Stores
 pub mod Built
 pub mod Entered
@@ -10,3 +11,4 @@ pub mod Sampled
 pub mod Obeyed
 pub mod Polled
 pub mod Called
+pub mod Runs

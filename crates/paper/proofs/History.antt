@@ -22,7 +22,7 @@ use Rattle.paper.specs.Housekeeping.{housekeepingPacket}
 use Rattle.paper.specs.Acts.{enter, heard, moved, counted as ticked, inProximity, last, completes, taken, watching, ended, impactPacket, completed, ticks, joinedBy, closes, closed, extended, sampled, noted, cleared, commanded, obeyed, polled, performed, polledFrom, accepted, answer}
 use Rattle.paper.specs.Step.{holds, queues, nothingWaits, reply, lateHeard, erred, isError, refused, Outcome, outcome, replied, step}
 use Rattle.paper.specs.Runs.{Call, runs}
-use Rattle.paper.specs.History.{history, howMany, sameChannel, commandOn, broadcastsOn, packetsOn, commandsIn, pollsOn, errorsIn, isAccepted, raisesBroadcasts, raisesPackets, raisesCommands, raisesTelemetry, raisesErrors, fullPacket, onlyIf, sent, sentAt, sentBy, piecesOf, countsAfter, numberedAll, spares, stillWaiting, sparedAt, stillWaitingAt}
+use Rattle.paper.specs.History.{Counted, history, howMany, sameChannel, commandOn, broadcastsOn, packetsOn, commandsIn, pollsOn, errorsIn, isAccepted, raisesBroadcasts, raisesPackets, raisesCommands, raisesTelemetry, raisesErrors, fullPacket, onlyIf, sent, sentAt, sentBy, piecesOf, countsAfter, numberedAll, spares, stillWaiting, sparedAt, stillWaitingAt}
 use Rattle.paper.proofs.Refusals.{passed}
 
 -- ---- what packets do to queue and counts
@@ -413,15 +413,6 @@ adds-step c bytes room = by (reply (holds c) f room) refl (eqb (reply (holds c) 
     by n r false e = adds-refused n f c e
 
 -- ---- counts along a run
-
--- The counts that c holds are the numbers of the history h and of the queued packets ps.
-pub record Counted (c : Controller) (h : List (Frame × ℕ)) (ps : List (ℕ × List ℕ)) : Type 0 where
-  pub broadcasts : (cc : Channel) → at cc (c .tallies .broadcasts) ≡ broadcastsOn cc h % 65536
-  pub packets : (cc : Channel) → at cc (c .tallies .packets) ≡ packetsOn cc h % 65536
-  pub telemetry : (cc : Channel) → at cc (c .tallies .telemetry) ≡ pollsOn cc h % 65536
-  pub commands : c .tallies .commands ≡ commandsIn h % 65536
-  pub errors : c .tallies .errors ≡ errorsIn h % 256
-  pub streams : (t : ℕ) → c .counts t ≡ piecesOf t ps % 4096
 
 how-many-snoc : (test : Frame → ℕ → Bool) (h : List (Frame × ℕ)) (f : Frame) (n : ℕ)
     → howMany test (h ++ ((f, n) ∷ [])) ≡ howMany test h + cond (test f n) 1 0

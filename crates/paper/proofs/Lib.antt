@@ -16,6 +16,9 @@ pub mod Reading
 pub mod Polled
 pub mod Way
 pub mod Selected
+pub mod Order
+pub mod Delivery
+pub mod Together
 pub mod Demand3
 pub mod Handing
 pub mod Sharp

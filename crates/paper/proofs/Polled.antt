@@ -190,7 +190,7 @@ rising-join s xs H n lo (p ∷ q) h g f = (
   rising-join s xs H n (suc (p .count)) q h (omega (arith, f .1)) (f .3),
 )
 
-after-suc : (n : ℕ) (xs : List (List ℕ)) → after suc n xs ≡ n + length xs
+pub after-suc : (n : ℕ) (xs : List (List ℕ)) → after suc n xs ≡ n + length xs
 unfolding after
 after-suc n [] = omega arith
 after-suc n (x ∷ xs) = after-suc (suc n) xs ∙ omega arith
@@ -267,13 +267,41 @@ rising-all s (p ∷ ps) N H lo q n l f = at (eqb (p .0) s) refl (λ G r m g k. r
         (rw (only-append (λ (r : Piece (List ℕ)). r .stream) s q front, only-numbered-other s (p .0) (N (p .0)) (cut (pieces (p .0)) (p .1)) e, append-nil (piecesIn s q)) f) in
         rw (← append-assoc q front (numberedAll suc M ps)) more
 
+-- ---- of all streams: some of the pieces, in their order
+
+abbrev pub Sub : List Polled → List (Piece (List ℕ)) → Type 0
+Sub [] q = Unit {0}
+Sub (p ∷ ps) [] = ⊥
+Sub (p ∷ ps) (z ∷ q) = ((z .stream ≡ p .stream) × (z .count ≡ p .number) × Sub ps q) ⊎ Sub (p ∷ ps) q
+
+pub sub-skip : (z : Piece (List ℕ)) (ps : List Polled) (q : List (Piece (List ℕ))) → Sub ps q → Sub ps (z ∷ q)
+sub-skip z [] q h = tt
+sub-skip z (p ∷ ps) q h = inr h
+
+sub-keep : (z : Piece (List ℕ)) (ps : List Polled) (q r : List (Piece (List ℕ))) → ((ps′ : List Polled) → Sub ps′ q → Sub ps′ r)
+    → Sub ps (z ∷ q) → Sub ps (z ∷ r)
+sub-keep z [] q r f h = tt
+sub-keep z (p ∷ ps) q r f (inl h) = inl (h .0, h .1, f ps (h .2))
+sub-keep z (p ∷ ps) q r f (inr h) = inr (f (p ∷ ps) h)
+
+sub-without : (f : ℕ → Bool) (q T : List (Piece (List ℕ))) (ps : List Polled) → Sub ps (without f q ++ T) → Sub ps (q ++ T)
+unfolding without
+sub-without f [] T ps h = h
+sub-without f (z ∷ q) T ps h = at (f (z .stream)) (λ ps′ k. sub-without f q T ps′ k) h
+  where
+    at : (b : Bool) → ((ps′ : List Polled) → Sub ps′ (without f q ++ T) → Sub ps′ (q ++ T))
+        → Sub ps (cond b (without f q) (z ∷ without f q) ++ T) → Sub ps (z ∷ (q ++ T))
+    at true ih k = sub-skip z ps (q ++ T) (ih ps k)
+    at false ih k = sub-keep z ps (without f q ++ T) (q ++ T) ih k
+
 -- ---- one call
 
--- What a call does to the pieces that wait: it takes none, and those of stream s that it spares still rise; or it takes the first,
--- and the reader finds it in the bytes that are written.
+-- What a call does to the pieces that wait: it takes none, and those that it spares still rise and stand in their order; or it takes
+-- the first, and the reader finds it in the bytes that are written.
 abbrev Effect : ℕ → (waiting taken spared : List (Piece (List ℕ))) → List ℕ → Type 0
 Effect s waiting taken spared out =
-    ((taken ≡ []) × ((H : List (List ℕ)) (lo : ℕ) → Rising H lo (piecesIn s waiting) → Rising H lo (piecesIn s spared)))
+    ((taken ≡ []) × ((H : List (List ℕ)) (lo : ℕ) → Rising H lo (piecesIn s waiting) → Rising H lo (piecesIn s spared))
+    × ((T : List (Piece (List ℕ))) (ps : List Polled) → Sub ps (spared ++ T) → Sub ps (waiting ++ T)))
     ⊎ ((p : Piece (List ℕ)) × (q : List (Piece (List ℕ))) × (waiting ≡ p ∷ q) × (taken ≡ p ∷ []) × (spared ≡ q)
     × (packetOf out ≡ packet (p .stream) (p .count % 4096) (p .body)))
 
@@ -281,7 +309,7 @@ module _ (s : ℕ) (c : Controller) (w : Numbers) (k : Beside c w) (g : Readies 
   polls : (cc : Channel) (q : List (Piece (List ℕ))) → Readies (map wire q)
       → Effect s q (take 1 q) (drop 1 q) (shownFrom c cc (map wire q))
   unfolding shownFrom
-  polls cc [] h = inl (refl, λ H lo f. f)
+  polls cc [] h = inl (refl, (λ H lo f. f), λ T ps u. u)
   polls cc (p ∷ q) h =
       inr (p, q, refl, refl, refl, polled-parse cc (c .tallies .telemetry) (wire p) (h .0))
 
@@ -291,10 +319,11 @@ module _ (s : ℕ) (c : Controller) (w : Numbers) (k : Beside c w) (g : Readies 
       (sym (k .queue)) (polls cc (w .waiting) (subst Readies (k .queue) g))
 
   keeps : (out : List ℕ) → Effect s (w .waiting) [] (w .waiting) out
-  keeps out = inl (refl, λ H lo f. f)
+  keeps out = inl (refl, (λ H lo f. f), λ T ps u. u)
 
   orders : (d : Decoded) (out : List ℕ) → Effect s (w .waiting) [] (spares d (w .waiting)) out
-  orders (request (clear mask)) out = inl (refl, λ H lo f. rising-without s (names mask) H lo (w .waiting) f)
+  orders (request (clear mask)) out =
+      inl (refl, (λ H lo f. rising-without s (names mask) H lo (w .waiting) f), λ T ps u. sub-without (names mask) (w .waiting) T ps u)
   orders (request housekeeping) out = keeps out
   orders (request (setMode value)) out = keeps out
   orders (refusal n) out = keeps out
@@ -489,3 +518,37 @@ outputs (x ∷ xs) c w k =
 pub polled-outputs : (calls : List Call) → map (λ p. p .bytes) (polled calls) ≡ pollOutputs calls (replies start calls)
 unfolding polled
 polled-outputs calls = outputs calls start none-queued beside-start
+
+-- ---- of all streams together
+
+numbered-append : (ps qs : List (ℕ × List ℕ)) (N : ℕ → ℕ)
+    → numberedAll suc N (ps ++ qs) ≡ numberedAll suc N ps ++ numberedAll suc (countsAfter suc N ps) qs
+unfolding numberedAll countsAfter
+numbered-append [] qs N = refl
+numbered-append (p ∷ ps) qs N =
+    ap (λ l. numbered suc (p .0) (N (p .0)) (cut (pieces (p .0)) (p .1)) ++ l) (numbered-append ps qs _)
+    ∙ sym (append-assoc (numbered suc (p .0) (N (p .0)) (cut (pieces (p .0)) (p .1))) _ _)
+
+sub-adds : (waiting taken spared T : List (Piece (List ℕ))) (out : List ℕ) (rest : List Polled) → Effect 0 waiting taken spared out
+    → Sub rest (spared ++ T) → Sub (map (written out) taken ++ rest) (waiting ++ T)
+sub-adds waiting taken spared T out rest (inl e) h = rw (e .0) (e .2 T rest h)
+sub-adds waiting taken spared T out rest (inr e) h =
+    rw (e .3, e .2) (inl (refl, refl, subst (λ (q : List (Piece (List ℕ))). Sub rest (q ++ T)) (e .4) h))
+
+polls-sub : (xs : List Call) (c : Controller) (w : Numbers) → Beside c w → Sizes c → Waits c
+    → Sub (polledFrom c w xs) (w .waiting ++ numberedAll suc (w .queued) (sentBy c xs))
+unfolding polledFrom sentBy numbersAfter
+polls-sub [] c w k z g = tt
+polls-sub (x ∷ xs) c w k z g =
+    let now : List (ℕ × List ℕ) = sentAt c x in
+    let next : Controller = step c (x .bytes) (x .room) .next in
+    let spared : List (Piece (List ℕ)) = sparedAt c x (w .waiting) in
+    sub-adds (w .waiting) (takenAt c x (w .waiting)) spared (numberedAll suc (w .queued) (now ++ sentBy next xs))
+    (step c (x .bytes) (x .room) .out) (polledFrom next (numbersAfter c w x) xs) (calls 0 c w k (g .ready) x)
+    (rw (numbered-append now (sentBy next xs) (w .queued), ← append-assoc spared (numberedAll suc (w .queued) now) (numberedAll suc (countsAfter suc (w .queued) now) (sentBy next xs)))
+    (polls-sub xs next (numbersAfter c w x) (beside-step c w x k) (sizes-step c x z) (waits-step c x z g)))
+
+-- the packets polled are some of the pieces ever queued, in the order queued
+pub polled-sub : (calls : List Call) → Sub (polled calls) (numberedAll suc (λ s. 0) (sentBy start calls))
+unfolding polled
+polled-sub calls = polls-sub calls start none-queued beside-start sizes-start waits-start

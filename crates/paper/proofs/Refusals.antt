@@ -9,7 +9,7 @@ use borrow.Author.Tests.{eqb-true, eqb-false, eq-eqb, ne-eqb}
 use Rattle.paper.specs.Frames.{Channel, Frame, broadcast, command, tick, sample, poll, status, analogue, faulty, frameOf}
 use Rattle.paper.specs.Controller.{Controller}
 use Rattle.paper.specs.Acts.{accepted, answer}
-use Rattle.paper.specs.Step.{Lent, holds, wrongShape, notCarried, wrongLength, outOfRange, late, notTaken, noRoom, nothingWaits, first, reply, tests, isError, lateHeard, erred, refused, Outcome, outcome, replied, step}
+use Rattle.paper.specs.Step.{Lent, holds, wrongShape, notCarried, wrongLength, outOfRange, late, notTaken, noRoom, nothingWaits, first, reply, tests, isError, lateHeard, erred, refused, changesListed, Outcome, outcome, replied, step}
 
 -- "Tested in the order 10, 8, 1, 2, 3, 4, 5, 6, 7, 9"
 pub order : (l : Lent Controller) (f : Frame) (room : ℕ)
@@ -122,18 +122,7 @@ error-raises c bytes room n cc id sequence parameters f e t = leaves c bytes roo
         elim-false : false ≡ true → ⊥
         elim-false p = let z : _≡_ {A = ℕ} 0 1 = ap (λ b. cond b 1 0) p in eqb-false 0 1 refl z
 
--- the refusals for which document 01 lists a change
-abbrev pub listed : ℕ → Frame → Bool
-listed n (broadcast cc time altitude spin phase) = eqb n 5
-listed n (command cc id sequence parameters) = isError n
-listed n (tick r) = false
-listed n (sample s x) = false
-listed n (poll cc) = false
-listed n (status cc low flags) = false
-listed n (analogue bytes) = false
-listed n faulty = false
-
-stays : (n : ℕ) (f : Frame) (c : Controller) → listed n f ≡ false → refused n f c ≡ c
+stays : (n : ℕ) (f : Frame) (c : Controller) → changesListed n f ≡ false → refused n f c ≡ c
 unfolding refused
 stays n (broadcast cc time altitude spin phase) c l = rw l
 stays n (command cc id sequence parameters) c l = rw l
@@ -146,5 +135,5 @@ stays n faulty c l = refl
 
 -- "Every other refusal changes nothing."
 pub nothing-else : (c : Controller) (bytes : List ℕ) (room n : ℕ) → step c bytes room .reply ≡ n → (n ≡ 0 → ⊥)
-    → listed n (frameOf bytes) ≡ false → step c bytes room .next ≡ c
+    → changesListed n (frameOf bytes) ≡ false → step c bytes room .next ≡ c
 nothing-else c bytes room n e h l = leaves c bytes room n e h ∙ stays n (frameOf bytes) c l

@@ -1,4 +1,4 @@
--- `complete`, the packets all of whose pieces arrived, as an increasing list of places; such a list is known by its members.
+-- The packets of one stream all of whose pieces arrived, as an increasing list of places; such a list is known by its members.
 -- Assumes nothing.
 use mathlib.Core.Path.{_≡_, refl, sym, ap, ap₂, _∙_, subst}
 use mathlib.Core.Logic.{_⊎_, inl, inr, _↔_}
@@ -12,7 +12,7 @@ use lib.Dec.{eqb}
 use lib.ListN.{length, getD, length-append}
 use lib.Seq.{getD-append-seam, append-snoc}
 use borrow.Author.Tests.{eqb-true, eq-eqb}
-use Rattle.paper.specs.Demands.{among, allAmong, complete}
+use Rattle.paper.specs.Demands.{among, allAmong}
 use Rattle.paper.proofs.Arrivals.{In, Increasing}
 
 -- ---- an increasing list is known by its members
@@ -44,7 +44,7 @@ same-members (p ∷ ps) (q ∷ qs) ip iq f g =
 
 -- ---- the tests as facts
 
-among-in : (n : ℕ) (ms : List ℕ) → among n ms ≡ true → In n ms
+pub among-in : (n : ℕ) (ms : List ℕ) → among n ms ≡ true → In n ms
 among-in n [] h = absurd (false≢true h)
 among-in n (m ∷ ms) h = at (eqb n m) refl h (λ k. among-in n ms k)
   where
@@ -52,7 +52,7 @@ among-in n (m ∷ ms) h = at (eqb n m) refl h (λ k. among-in n ms k)
     at true e k ih = inl (eqb-true n m e)
     at false e k ih = inr (ih k)
 
-in-among : (n : ℕ) (ms : List ℕ) → In n ms → among n ms ≡ true
+pub in-among : (n : ℕ) (ms : List ℕ) → In n ms → among n ms ≡ true
 in-among n (m ∷ ms) (inl h) = rw (eq-eqb n m h)
 in-among n (m ∷ ms) (inr h) = at (eqb n m) (in-among n ms h)
   where
@@ -60,7 +60,7 @@ in-among n (m ∷ ms) (inr h) = at (eqb n m) (in-among n ms h)
     at true k = refl
     at false k = k
 
-all-in : (k n : ℕ) (ms : List ℕ) → allAmong k n ms ≡ true → (j : ℕ) → j < k → In (n + j) ms
+pub all-in : (k n : ℕ) (ms : List ℕ) → allAmong k n ms ≡ true → (j : ℕ) → j < k → In (n + j) ms
 all-in zero n ms h j l = absurd (omega arith)
 all-in (suc k) n ms h j l = at (among n ms) refl h (λ t i m. all-in k (suc n) ms t i m) j l
   where
@@ -70,11 +70,16 @@ all-in (suc k) n ms h j l = at (among n ms) refl h (λ t i m. all-in k (suc n) m
     at true e t ih (suc j) l = subst (λ (x : ℕ). In x ms) (omega arith) (ih t j (omega arith))
     at false e t ih j l = absurd (false≢true t)
 
-in-all : (k n : ℕ) (ms : List ℕ) → ((j : ℕ) → j < k → In (n + j) ms) → allAmong k n ms ≡ true
+pub in-all : (k n : ℕ) (ms : List ℕ) → ((j : ℕ) → j < k → In (n + j) ms) → allAmong k n ms ≡ true
 in-all zero n ms f = refl
 in-all (suc k) n ms f =
     rw (in-among n ms (subst (λ (x : ℕ). In x ms) (omega arith) (f 0 (omega arith))))
     (in-all k (suc n) ms (λ j l. subst (λ (x : ℕ). In x ms) (omega arith) (f (suc j) (omega arith))))
+
+-- of packets of k pieces each, the first of which begins at number n: those all of whose pieces are among ms
+unfoldable pub completeOf : ℕ → ℕ → List ℕ → List (List ℕ) → List (List ℕ)
+completeOf k n ms [] = []
+completeOf k n ms (x ∷ xs) = cond (allAmong k n ms) (x ∷ completeOf k (n + k) ms xs) (completeOf k (n + k) ms xs)
 
 -- ---- the places of the packets all of whose pieces are among ms
 
@@ -85,15 +90,15 @@ module _ (k : ℕ) (ms : List ℕ) where
   places i n (x ∷ xs) = cond (allAmong k n ms) (i ∷ places (suc i) (n + k) xs) (places (suc i) (n + k) xs)
 
   places-complete : (xs pre L : List (List ℕ)) (i n : ℕ) → L ≡ pre ++ xs → i ≡ length pre
-      → complete k n ms xs ≡ map (λ q. getD L q []) (places i n xs)
-  unfolding places complete
+      → completeOf k n ms xs ≡ map (λ q. getD L q []) (places i n xs)
+  unfolding places completeOf
   places-complete [] pre L i n e h = refl
   places-complete (x ∷ xs) pre L i n e h =
       at (allAmong k n ms)
       (places-complete xs (pre ++ (x ∷ [])) L (suc i) (n + k) (e ∙ sym (append-snoc pre x xs)) (omega (arith, length-append pre (x ∷ []))))
     where
-      at : (b : Bool) → complete k (n + k) ms xs ≡ map (λ q. getD L q []) (places (suc i) (n + k) xs)
-          → cond b (x ∷ complete k (n + k) ms xs) (complete k (n + k) ms xs)
+      at : (b : Bool) → completeOf k (n + k) ms xs ≡ map (λ q. getD L q []) (places (suc i) (n + k) xs)
+          → cond b (x ∷ completeOf k (n + k) ms xs) (completeOf k (n + k) ms xs)
           ≡ map (λ q. getD L q []) (cond b (i ∷ places (suc i) (n + k) xs) (places (suc i) (n + k) xs))
       at true f = ap₂ _∷_ (sym (rw (e, h) (getD-append-seam pre x xs []))) f
       at false f = f
@@ -145,7 +150,7 @@ module _ (k : ℕ) (ms : List ℕ) where
 
   -- THE LAW: places that are known by their members
   pub selected : (xs : List (List ℕ)) (qs : List ℕ) → Increasing qs → ((q : ℕ) → In q qs ↔ ((j : ℕ) → j < k → In (q * k + j) ms))
-      → ((q : ℕ) → In q qs → q < length xs) → map (λ q. getD xs q []) qs ≡ complete k 0 ms xs
+      → ((q : ℕ) → In q qs → q < length xs) → map (λ q. getD xs q []) qs ≡ completeOf k 0 ms xs
   selected xs qs up is lt =
       ap (map (λ q. getD xs q []))
       (same-members qs (places 0 0 xs) up (places-increasing xs 0 0 (omega arith))

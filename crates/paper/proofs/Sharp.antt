@@ -2,12 +2,12 @@
 -- 819 of them, are 4,095 pieces that go missing; all pieces of the next packet arrive, and it is not handed out, for its first
 -- piece has the count that the reader had last and is taken for a repeat. So before the first arrival, and so between two.
 -- Assumes nothing.
-use mathlib.Core.Path.{_≡_, refl, ap, _∙_, fun-ext}
+use mathlib.Core.Path.{_≡_, refl, sym, ap, ap₂, _∙_, subst, fun-ext}
 use mathlib.Core.Bool.{Bool, true, false, cond}
 use mathlib.Core.Option.{none}
 use mathlib.Core.List.{List, [], _∷_, _++_, map}
 use Prim.Native.Nat.{ℕ, zero, suc}
-use lib.Dec.{eqb}
+use lib.Dec.{eqb, lit≤}
 use lib.ListN.{replicate}
 use Rattle.paper.specs.Frames.{onChannel, frameOf}
 use Rattle.paper.specs.Mode.{number, modeOf, nibble, entered}
@@ -21,7 +21,7 @@ use Rattle.paper.specs.Step.{reply, refused, replied, step}
 use Rattle.paper.specs.Reader.{arrive, wellFormed, packetOf, sound, readerStart, received, understood, readerStep}
 use Rattle.paper.specs.Runs.{Call, call, runs, readings}
 use Rattle.paper.specs.History.{fullPacket, sent, sentAt, sentBy, countsAfter, numberedAll, sparedAt}
-use Rattle.paper.specs.Demands.{Numbers, numbersAfter, takenAt, polledFrom, polled, Fate, came, Arrival, frame, arrivalsFrom, arrivals, ownOf, arrived, handedOut, of, handedOutOf, complete}
+use Rattle.paper.specs.Demands.{Numbers, numbersAfter, takenAt, polledFrom, polled, Fate, came, Arrival, frame, arrivalsFrom, arrivals, Quiet, ownOf, arrived, Given, handedOut, of, handsOut, complete, arrivedWhole}
 
 abbrev pub to5 : Call
 to5 = call (0x02 ∷ 0x0A ∷ 0x00 ∷ 0x32 ∷ 0x00 ∷ 0x01 ∷ 0x00 ∷ 0x05 ∷ []) 126
@@ -144,11 +144,17 @@ rounds-sent (suc n) m a rest =
 abbrev pub given : List Arrival → List Call
 given = map (λ y. call (frame y) 776)
 
--- What arrives of ACC-E, which of its packets arrive whole, and what the reader hands out, given room.
-pub record Shows (calls : List Call) (fates : List Fate) (numbers : List ℕ) (wholes handed : List (List ℕ)) : Type 0 where
+given-all : (ys : List Arrival) → Given ys (given ys)
+given-all [] = tt
+given-all (y ∷ ys) = (refl, lit≤ tt, given-all ys)
+
+-- Nothing is put in; what arrives of ACC-E, which packets arrive whole, and what the reader hands out, given room.
+pub record Shows (calls : List Call) (fates : List Fate) (numbers : List ℕ) (wholes handed : List (ℕ × List ℕ)) : Type 0 where
+  pub quiet : Quiet (arrivals calls fates)
+  pub room : Given (arrivals calls fates) (given (arrivals calls fates))
   pub arrive : arrived 0x0B (arrivals calls fates) ≡ numbers
-  pub whole : complete 5 0 numbers (of 0x0B (sentBy start calls)) ≡ wholes
-  pub hand : handedOutOf 0x0B (given (arrivals calls fates)) ≡ handed
+  pub whole : arrivedWhole calls (arrivals calls fates) ≡ wholes
+  pub hand : handsOut (given (arrivals calls fates)) ≡ handed
 
 -- one packet queued and polled
 abbrev pub once : List Call
@@ -169,13 +175,15 @@ before-sent : sentBy start before ≡ replicate 819 (0x0B, packet) ++ sentBy (he
 unfolding heldWith from onChannel frameOf number modeOf nibble entered outside decoded rowOf takenIn dataOf datastream cut numbered after put without start queued emptied enter joinedBy closed sampled noted cleared commanded obeyed shown polls performed pollsFrom shownFrom accepted answer reply refused replied step runs fullPacket sent sentAt sentBy countsAfter numberedAll sparedAt numbersAfter takenAt polledFrom polled
 before-sent = rounds-sent 819 0 from once
 
-pub before-first : Shows before (replicate 5 came) (4095 ∷ 4096 ∷ 4097 ∷ 4098 ∷ 4099 ∷ []) (packet ∷ []) []
+pub before-first : Shows before (replicate 5 came) (4095 ∷ 4096 ∷ 4097 ∷ 4098 ∷ 4099 ∷ []) ((0x0B, packet) ∷ []) []
 unfolding heldWith from round after-rounds arrivals arrivalsFrom ownOf handedOut of complete arrive wellFormed packetOf sound readerStart received understood readerStep readings onChannel frameOf number modeOf nibble entered outside decoded rowOf takenIn dataOf datastream cut numbered after put without start queued emptied enter joinedBy closed sampled noted cleared commanded obeyed shown polls performed pollsFrom shownFrom accepted answer reply refused replied step runs fullPacket sent sentAt sentBy countsAfter numberedAll sparedAt numbersAfter takenAt polledFrom polled
 before-first =
     record {
+      quiet = subst (λ ps. Quiet (arrivalsFrom (λ s. none) ps (replicate 5 came))) (sym before-polled) tt;
+      room = given-all (arrivals before (replicate 5 came));
       arrive = ap (λ ps. arrived 0x0B (arrivalsFrom (λ s. none) ps (replicate 5 came))) before-polled;
-      whole = ap (λ ps. complete 5 0 (4095 ∷ 4096 ∷ 4097 ∷ 4098 ∷ 4099 ∷ []) (of 0x0B ps)) before-sent;
-      hand = ap (λ ps. handedOutOf 0x0B (given (arrivalsFrom (λ s. none) ps (replicate 5 came)))) before-polled;
+      whole = ap₂ (λ ps qs. complete (λ s. 0) (arrivalsFrom (λ s. none) ps (replicate 5 came)) qs) before-polled before-sent;
+      hand = ap (λ ps. handsOut (given (arrivalsFrom (λ s. none) ps (replicate 5 came)))) before-polled;
     }
 
 -- 4,095 pieces missing between two arrivals
@@ -208,13 +216,14 @@ between-sent =
     ap (λ (o : ℕ → Open). (0x0B, packet) ∷ sentBy (heldWith o 5 then) (rounds 819 once)) one-closed
     ∙ ap (λ l. (0x0B, packet) ∷ l) (rounds-sent 819 5 then once)
 
-pub between-two : Shows between (replicate 10 came) (0 ∷ 1 ∷ 2 ∷ 3 ∷ 4 ∷ 4100 ∷ 4101 ∷ 4102 ∷ 4103 ∷ 4104 ∷ []) (packet ∷ packet ∷ [])
-    (packet ∷ [])
+pub between-two : Shows between (replicate 10 came) (0 ∷ 1 ∷ 2 ∷ 3 ∷ 4 ∷ 4100 ∷ 4101 ∷ 4102 ∷ 4103 ∷ 4104 ∷ [])
+    ((0x0B, packet) ∷ (0x0B, packet) ∷ []) ((0x0B, packet) ∷ [])
 unfolding heldWith then round after-rounds arrivals arrivalsFrom ownOf handedOut of complete arrive wellFormed packetOf sound readerStart received understood readerStep readings onChannel frameOf number modeOf nibble entered outside decoded rowOf takenIn dataOf datastream cut numbered after put without start queued emptied enter joinedBy closed sampled noted cleared commanded obeyed shown polls performed pollsFrom shownFrom accepted answer reply refused replied step runs fullPacket sent sentAt sentBy countsAfter numberedAll sparedAt numbersAfter takenAt polledFrom polled
 between-two =
     record {
+      quiet = subst (λ ps. Quiet (arrivalsFrom (λ s. none) ps (replicate 10 came))) (sym between-polled) tt;
+      room = given-all (arrivals between (replicate 10 came));
       arrive = ap (λ ps. arrived 0x0B (arrivalsFrom (λ s. none) ps (replicate 10 came))) between-polled;
-      whole =
-          ap (λ ps. complete 5 0 (0 ∷ 1 ∷ 2 ∷ 3 ∷ 4 ∷ 4100 ∷ 4101 ∷ 4102 ∷ 4103 ∷ 4104 ∷ []) (of 0x0B ps)) between-sent;
-      hand = ap (λ ps. handedOutOf 0x0B (given (arrivalsFrom (λ s. none) ps (replicate 10 came)))) between-polled;
+      whole = ap₂ (λ ps qs. complete (λ s. 0) (arrivalsFrom (λ s. none) ps (replicate 10 came)) qs) between-polled between-sent;
+      hand = ap (λ ps. handsOut (given (arrivalsFrom (λ s. none) ps (replicate 10 came)))) between-polled;
     }

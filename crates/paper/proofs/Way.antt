@@ -29,11 +29,28 @@ AllGenuine [] = Unit {0}
 AllGenuine (own p ∷ ys) = Genuine p × AllGenuine ys
 AllGenuine (strange f ∷ ys) = AllGenuine ys
 
-pub genuine-take : (n : ℕ) (ys : List Arrival) → AllGenuine ys → AllGenuine (take n ys)
-genuine-take zero ys h = tt
-genuine-take (suc n) [] h = tt
-genuine-take (suc n) (own p ∷ ys) h = (h .0, genuine-take n ys (h .1))
-genuine-take (suc n) (strange f ∷ ys) h = genuine-take n ys h
+-- ---- a beginning of what arrives is what arrives by some fates
+
+prefix-repeats : (n : ℕ) (o : Option Polled) (t : ℕ) (ys : List Arrival) (from : List Fate → List Arrival)
+    → ((fs : List Fate) → from (again t ∷ fs) ≡ repeats o (from fs)) → ((m : ℕ) → (fs : List Fate) × (take m ys ≡ from fs))
+    → (fs : List Fate) × (take (suc n) (repeats o ys) ≡ from fs)
+prefix-repeats n none t ys from e r = r (suc n)
+prefix-repeats n (some p) t ys from e r = (again t ∷ r n .0, ap (λ l. own p ∷ l) (r n .1) ∙ sym (e (r n .0)))
+
+pub prefix : (fates : List Fate) (n : ℕ) (last : ℕ → Option Polled) (ps : List Polled)
+    → (fs : List Fate) × (take n (arrivalsFrom last ps fates) ≡ arrivalsFrom last ps fs)
+unfolding arrivalsFrom
+prefix [] zero last ps = ([], refl)
+prefix [] (suc n) last ps = ([], refl)
+prefix (f ∷ fates) zero last ps = ([], refl)
+prefix (lost ∷ fates) (suc n) last [] = prefix fates (suc n) last []
+prefix (lost ∷ fates) (suc n) last (p ∷ ps) = let r = prefix fates (suc n) last ps in (lost ∷ r .0, r .1)
+prefix (came ∷ fates) (suc n) last [] = prefix fates (suc n) last []
+prefix (came ∷ fates) (suc n) last (p ∷ ps) =
+    let r = prefix fates n (put last (p .stream) (some p)) ps in (came ∷ r .0, ap (λ l. own p ∷ l) (r .1))
+prefix (again t ∷ fates) (suc n) last ps =
+    prefix-repeats n (last t) t (arrivalsFrom last ps fates) (arrivalsFrom last ps) (λ fs. refl) (λ m. prefix fates m last ps)
+prefix (noise f ∷ fates) (suc n) last ps = let r = prefix fates n last ps in (noise f ∷ r .0, ap (λ l. strange f ∷ l) (r .1))
 
 module _ (s : ℕ) (H : List (List ℕ)) where
   -- each is the last one once more, or a later one; H has its body under its number
@@ -42,19 +59,6 @@ module _ (s : ℕ) (H : List (List ℕ)) where
   Told lo (p ∷ ps) =
       ((suc (p .number) ≡ lo) ⊎ (lo ≤ p .number)) × (p .number < length H)
       × (packetOf (p .bytes) ≡ packet s (p .number % 4096) (getD H (p .number) [])) × Told (suc (p .number)) ps
-
-  pub told-take : (n : ℕ) (ys : List Arrival) (lo : ℕ) → Told lo (ownOf s ys) → Told lo (ownOf s (take n ys))
-  unfolding ownOf
-  told-take zero ys lo h = tt
-  told-take (suc n) [] lo h = tt
-  told-take (suc n) (own p ∷ ys) lo h = at (eqb (p .stream) s) h (λ lo′ k. told-take n ys lo′ k)
-    where
-      at : (b : Bool) → Told lo (cond b (p ∷ ownOf s ys) (ownOf s ys))
-          → ((lo′ : ℕ) → Told lo′ (ownOf s ys) → Told lo′ (ownOf s (take n ys)))
-          → Told lo (cond b (p ∷ ownOf s (take n ys)) (ownOf s (take n ys)))
-      at true k ih = (k .0, k .1, k .2, ih (suc (p .number)) (k .3))
-      at false k ih = ih lo k
-  told-take (suc n) (strange f ∷ ys) lo h = told-take n ys lo h
 
   -- ---- fates
 

@@ -1,14 +1,15 @@
--- Demand 3, as a claim on the definitions. Read out loud:
+-- Demand 3, as a claim on the definitions (`Demand3`, at the end). Read out loud:
 --
 -- "Start both afresh. Take the controller's packets in the order polled" (`polled`); "lose any, repeat any unaltered as the next
 -- arrival of its stream, put frames that are no packet of a carried stream (replies 20 and 21) anywhere" (`Fate`, `arrivals`,
 -- `Quiet`). "If never more than 4,094 queued pieces of a stream go missing before its first arrival or between two" (`Gaps`), "the
--- reader, given room" (`Given`), "hands out exactly the datastream packets all of whose pieces arrived, once each, in order, every
--- byte true" (`Delivered`, an equation of lists, so no second outcome fits). "What is lost or repeated in one stream changes nothing
--- handed out of another" (`Independent`).
+-- reader, given room" (`Given`), "hands out" (`handsOut`) "exactly the datastream packets all of whose pieces arrived, once each, in
+-- order, every byte true" (`arrivedWhole`): an equation of lists, so that no second outcome fits; of each stream by itself
+-- (`Delivered`), and of all together (`InOrder`). "What is lost or repeated in one stream changes nothing handed out of another."
+-- (`Independent`)
 --
--- A piece's number is how many pieces of its stream were queued before it. A piece that was cleared, lost or never polled is a number
--- that does not arrive. All of it holds at every moment on the way, after the first n arrivals (`Demand3`).
+-- A piece's number is how many pieces of its stream were queued before it. One that was cleared, or lost, or never polled, is a number
+-- that does not arrive. The equations hold at every moment on the way too, after the first n arrivals.
 -- Assumes nothing.
 use mathlib.Core.Path.{_≡_}
 use mathlib.Core.Logic.{_⊎_}
@@ -171,9 +172,9 @@ unfoldable pub of : {X : Type 0} → ℕ → List (ℕ × X) → List X
 of s [] = []
 of s (x ∷ xs) = cond (eqb (x .0) s) ((x .1) ∷ of s xs) (of s xs)
 
--- what a fresh reader hands out of stream s
-abbrev pub handedOutOf : ℕ → List Call → List (List ℕ)
-handedOutOf s given = of s (handedOut given (readings readerStart given))
+-- "Start both afresh."
+abbrev pub handsOut : List Call → List (ℕ × List ℕ)
+handsOut given = handedOut given (readings readerStart given)
 
 -- ---- "exactly the datastream packets all of whose pieces arrived, once each, in order, every byte true"
 
@@ -186,16 +187,27 @@ abbrev pub allAmong : ℕ → ℕ → List ℕ → Bool
 allAmong zero n ms = true
 allAmong (suc k) n ms = among n ms && allAmong k (suc n) ms
 
--- of packets of k pieces each, the first of which begins at number n: those all of whose pieces arrived
-unfoldable pub complete : ℕ → ℕ → List ℕ → List (List ℕ) → List (List ℕ)
-complete k n ms [] = []
-complete k n ms (x ∷ xs) = cond (allAmong k n ms) (x ∷ complete k (n + k) ms xs) (complete k (n + k) ms xs)
+-- Of packets with their streams, before which `before s` pieces of stream s were queued: those all of whose pieces arrived.
+unfoldable pub complete : (ℕ → ℕ) → List Arrival → List (ℕ × List ℕ) → List (ℕ × List ℕ)
+complete before ys [] = []
+complete before ys (p ∷ ps) =
+    let s : ℕ = p .0 in
+    let rest : List (ℕ × List ℕ) = complete (put before s (before s + pieces s)) ys ps in
+    cond (allAmong (pieces s) (before s) (arrived s ys)) (p ∷ rest) rest
 
 -- `sentBy` are the datastream packets that calls to the controller queued, with their streams, at their listed lengths.
+abbrev pub arrivedWhole : List Call → List Arrival → List (ℕ × List ℕ)
+arrivedWhole calls ys = complete (λ s. 0) ys (sentBy start calls)
+
+-- of one stream, whatever becomes of the others
 abbrev pub Delivered : List Call → List Arrival → ℕ → Type 0
 Delivered calls ys s =
-    Quiet ys → Gaps 0 (arrived s ys) → (given : List Call) → Given ys given
-    → handedOutOf s given ≡ complete (pieces s) 0 (arrived s ys) (of s (sentBy start calls))
+    Quiet ys → Gaps 0 (arrived s ys) → (given : List Call) → Given ys given → of s (handsOut given) ≡ of s (arrivedWhole calls ys)
+
+-- of all streams together: in the order in which they were queued
+abbrev pub InOrder : List Call → List Arrival → Type 0
+InOrder calls ys =
+    Quiet ys → ((s : ℕ) → Gaps 0 (arrived s ys)) → (given : List Call) → Given ys given → handsOut given ≡ arrivedWhole calls ys
 
 -- ---- "What is lost or repeated in one stream changes nothing handed out of another."
 
@@ -204,14 +216,18 @@ Delivered calls ys s =
 abbrev pub Independent : List Arrival → List Arrival → ℕ → Type 0
 Independent ys zs s =
     Quiet ys → Quiet zs → ownOf s ys ≡ ownOf s zs → (given given′ : List Call) → Given ys given → Given zs given′
-    → handedOutOf s given ≡ handedOutOf s given′
+    → of s (handsOut given) ≡ of s (handsOut given′)
 
 -- ---- the demand
 
+-- The packets are the controller's, under their numbers; each stream by itself, all streams, and both at every moment on the way;
+-- and one stream whatever becomes of the others.
 pub record Demand3 : Type 0 where
   pub written-by-polls : (calls : List Call) → map (λ p. p .bytes) (polled calls) ≡ pollOutputs calls (replies start calls)
   pub numbered : (calls : List Call) → Numbered (sentBy start calls) (polled calls)
   pub delivers : (calls : List Call) (fates : List Fate) (s : ℕ) → Delivered calls (arrivals calls fates) s
-  pub always : (calls : List Call) (fates : List Fate) (n s : ℕ) → Delivered calls (take n (arrivals calls fates)) s
+  pub in-order : (calls : List Call) (fates : List Fate) → InOrder calls (arrivals calls fates)
+  pub always : (calls : List Call) (fates : List Fate) (n : ℕ)
+      → ((s : ℕ) → Delivered calls (take n (arrivals calls fates)) s) × InOrder calls (take n (arrivals calls fates))
   pub independent : (calls : List Call) (fates fates′ : List Fate) (s : ℕ)
       → Independent (arrivals calls fates) (arrivals calls fates′) s

@@ -3,7 +3,8 @@
 -- Assumes nothing.
 use mathlib.Core.Bool.{Bool, true, false, cond, _&&_, _||_}
 use mathlib.Core.List.{List, [], _∷_, _++_}
-use Prim.Native.Nat.{ℕ, _+_}
+use mathlib.Core.Path.{_≡_}
+use Prim.Native.Nat.{ℕ, _+_, _%_}
 use lib.Dec.{eqb}
 use lib.ListN.{drop}
 use Rattle.paper.specs.Frames.{Channel, cdmuA, cdmuB, Frame, broadcast, command, tick, sample, poll, status, analogue, faulty, frameOf}
@@ -11,7 +12,7 @@ use Rattle.paper.specs.Commands.{clear, housekeeping, setMode, Decoded, 
 use Rattle.paper.specs.Streams.{acc-i, hk, pieces}
 use Rattle.paper.specs.Packets.{dataOf, datastream, cut}
 use Rattle.paper.specs.Queue.{Piece, numbered, after, put, without}
-use Rattle.paper.specs.Controller.{Open, Controller, stampNow}
+use Rattle.paper.specs.Controller.{at, Open, Controller, stampNow}
 use Rattle.paper.specs.Housekeeping.{housekeepingPacket}
 use Rattle.paper.specs.Acts.{completes, taken, impactPacket, joinedBy, closes, noted}
 use Rattle.paper.specs.Step.{queues, isError, Outcome, step}
@@ -149,6 +150,17 @@ sentBy c (x ∷ xs) = sentAt c x ++ sentBy (step c (x .bytes) (x .room) .next) x
 abbrev pub piecesOf : ℕ → List (ℕ × List ℕ) → ℕ
 piecesOf t [] = 0
 piecesOf t (p ∷ ps) = cond (eqb (p .0) t) (pieces t) 0 + piecesOf t ps
+
+-- ---- "All counts of 16 bits go from 65535 to 0 on purpose; the error count is 8 bits and wraps too"
+
+-- The counts that c holds are the numbers of the history h and of the queued packets ps.
+pub record Counted (c : Controller) (h : List (Frame × ℕ)) (ps : List (ℕ × List ℕ)) : Type 0 where
+  pub broadcasts : (cc : Channel) → at cc (c .tallies .broadcasts) ≡ broadcastsOn cc h % 65536
+  pub packets : (cc : Channel) → at cc (c .tallies .packets) ≡ packetsOn cc h % 65536
+  pub telemetry : (cc : Channel) → at cc (c .tallies .telemetry) ≡ pollsOn cc h % 65536
+  pub commands : c .tallies .commands ≡ commandsIn h % 65536
+  pub errors : c .tallies .errors ≡ errorsIn h % 256
+  pub streams : (t : ℕ) → c .counts t ≡ piecesOf t ps % 4096
 
 -- ---- what they do to queue and counts
 

@@ -203,6 +203,17 @@ refused n (status cc low flags) c = c
 refused n (analogue bytes) c = c
 refused n faulty c = c
 
+-- the refusals for which document 01 lists a change
+abbrev pub changesListed : ℕ → Frame → Bool
+changesListed n (broadcast cc time altitude spin phase) = eqb n 5
+changesListed n (command cc id sequence parameters) = isError n
+changesListed n (tick r) = false
+changesListed n (sample s x) = false
+changesListed n (poll cc) = false
+changesListed n (status cc low flags) = false
+changesListed n (analogue bytes) = false
+changesListed n faulty = false
+
 -- ---- one call
 
 -- The reply, the bytes written at the front of the output ("later output bytes stay"), and what is held afterwards.

@@ -131,7 +131,7 @@ module _ (s : List ℕ) (f : Fit s) (t : ℕ) (c : carried t ≡ true) (count : 
       own : readerIn s t ≡ trackIn s t
       own = ap (λ (b : Bool). cond b (trackIn s t) (fresh (pieces t))) c
 
-understood-formed : (s : List ℕ) → Fit s → (p : Packet) → Shaped Any p → (o : List ℕ)
+pub understood-formed : (s : List ℕ) → Fit s → (p : Packet) → Shaped Any p → (o : List ℕ)
     → toldOf (understood (readerIn s) p) o (understoodOn s p) ≡ understoodTo s p o
 unfolding understood understoodOn understoodTo
 understood-formed s f (packet t count x) h o = arrived-formed s f t (h .0) count x (h .2) o

@@ -19,22 +19,13 @@ use Rattle.wire.proofs.Runs.{length-put, drop-put, getD-put-inside, part-put-sa
 use Rattle.paper.specs.Streams.{pieces}
 use Rattle.paper.specs.Packets.{chunks}
 use Rattle.paper.specs.Reader.{placed}
-use Rattle.state.proofs.Apart.{Same, same-trans, Outside, put-same, be16-same, chunks-same}
+use Rattle.state.proofs.Apart.{Same, same-trans, Outside, put-same, be16-same, chunks-same, chunks-snoc}
 use Rattle.shelf.specs.Layout.{streams, recordAt, placeAt, markAt, gatherAt, pieceAt, readerBytes}
 use Rattle.shelf.specs.View.{trackIn}
 use Rattle.shelf.specs.Range.{Fits}
 use Rattle.shelf.specs.Received.{recordOf, recordedOn}
 
 -- ---- one more piece
-
-pub chunks-snoc : (p : ℕ) (l : List ℕ) → chunks 118 (suc p) l ≡ chunks 118 p l ++ (take 118 (drop (118 * p) l) ∷ [])
-chunks-snoc zero l = refl
-chunks-snoc (suc p) l =
-    let e : 118 + 118 * p ≡ 118 * suc p = omega arith in
-    ap (λ (r : List (List ℕ)). take 118 l ∷ r)
-    (chunks-snoc p (drop 118 l)
-    ∙ ap (λ (r : List ℕ). chunks 118 p (drop 118 l) ++ (take 118 r ∷ []))
-    (drop-drop (118 * p) 118 l ∙ ap (λ (n : ℕ). drop n l) e))
 
 -- a body stored behind p pieces
 pub piece-snoc : (s : List ℕ) (g p : ℕ) (x : List ℕ) → length x ≡ 118 → g + 118 * p + 118 ≤ length s
@@ -47,7 +38,8 @@ piece-snoc s g p x e h =
     chunks-same (put-same s at x fits g at (inr (omega arith))) 118 p g (omega arith) (omega arith) (omega arith) (omega arith) in
     let new : take 118 (drop (118 * p) (drop g (put s at x))) ≡ x =
     ap (take 118) (drop-drop (118 * p) g (put s at x)) ∙ part-put-same s at x fits 118 e in
-    chunks-snoc p (drop g (put s at x))
+    chunks-snoc 118 p (drop g (put s at x))
+    ∙ ap (λ (n : ℕ). chunks 118 p (drop g (put s at x)) ++ (take 118 (drop n (drop g (put s at x))) ∷ [])) (let c : p * 118 ≡ 118 * p = omega arith in c)
     ∙ ap (λ (r : List (List ℕ)). r ++ (take 118 (drop (118 * p) (drop g (put s at x))) ∷ [])) before
     ∙ ap (λ (r : List ℕ). chunks 118 p (drop g s) ++ (r ∷ [])) new
 

@@ -1,6 +1,7 @@
 -- Laws of the reader's lent bytes: the ranges as facts (Ranges), fresh bytes (Fresh), what a store into one stream's places leaves
 -- and what it makes of that stream's record (Gathered), a packet's fields (Packets), one call (Steps), calls one after the other
--- (Runs), what refusals leave (Refusals), and a call said by bytes alone (Formed).
+-- (Runs), what refusals leave (Refusals), which replies there are (Replies), a call said by bytes alone (Formed), and the length of
+-- what is handed out (Handed).
 pub mod Ranges
 pub mod Fresh
 pub mod Gathered
@@ -8,4 +9,6 @@ pub mod Packets
 pub mod Steps
 pub mod Runs
 pub mod Refusals
+pub mod Replies
 pub mod Formed
+pub mod Handed

@@ -5,46 +5,18 @@ use mathlib.Core.Bool.{true}
 use mathlib.Core.List.{List, [], _∷_}
 use Prim.Native.Nat.{ℕ, _≤_}
 use lib.ListN.{length}
-use Rattle.wire.specs.Wire.{put}
 use Rattle.paper.specs.Reader.{Reader, readerStart, readerStep}
-use Rattle.paper.specs.Runs.{Call, call, reads, readings}
-use Rattle.state.specs.Told.{Res}
+use Rattle.paper.specs.Runs.{reads, readings}
+use Rattle.state.specs.Calls.{Bytes, Framed, calls, fronts}
 use Rattle.shelf.specs.Layout.{readerBytes}
 use Rattle.shelf.specs.View.{readerIn}
 use Rattle.shelf.specs.Range.{Fit, fit}
 use Rattle.shelf.specs.Received.{readOf}
 use Rattle.shelf.specs.Fresh.{startedOn}
+use Rattle.shelf.specs.Runs.{Left, Agrees, readsOf, readingsOf}
 use Rattle.shelf.proofs.Ranges.{true-fit}
 use Rattle.shelf.proofs.Fresh.{start-view, start-fit, start-length, start-past}
-use Rattle.shelf.proofs.Steps.{Left, Bytes, Agrees, steps}
-
--- calls, each with a packet and the output that is lent with it: the bytes that are left
-unfoldable pub readsOf : List ℕ → List (List ℕ × List ℕ) → List ℕ
-readsOf s [] = s
-readsOf s (x ∷ xs) = readsOf (readOf s (x .0) (x .1) .state) xs
-
--- each call's reply, and its output afterwards
-unfoldable pub readingsOf : List ℕ → List (List ℕ × List ℕ) → List (ℕ × List ℕ)
-readingsOf s [] = []
-readingsOf s (x ∷ xs) =
-    let r : Res = readOf s (x .0) (x .1) in
-    (r .reply, r .out) ∷ readingsOf (r .state) xs
-
--- the same calls as document 01 sees them
-abbrev pub calls : List (List ℕ × List ℕ) → List Call
-calls [] = []
-calls (x ∷ xs) = call (x .0) (length (x .1)) ∷ calls xs
-
--- its replies and bytes, those at the front of each call's output
-abbrev pub fronts : List (List ℕ × List ℕ) → List (ℕ × List ℕ) → List (ℕ × List ℕ)
-fronts [] ys = []
-fronts (x ∷ xs) [] = []
-fronts (x ∷ xs) (y ∷ ys) = (y .0, put (x .1) 0 (y .1)) ∷ fronts xs ys
-
--- packets are of bytes
-abbrev pub Framed : List (List ℕ × List ℕ) → Type 0
-Framed [] = Unit {0}
-Framed (x ∷ xs) = Bytes (x .0) × Framed xs
+use Rattle.shelf.proofs.Steps.{steps}
 
 pub runs-view : (xs : List (List ℕ × List ℕ)) (s : List ℕ) → Fit s → Framed xs
     → Left (readsOf s xs) s (reads (readerIn s) (calls xs))

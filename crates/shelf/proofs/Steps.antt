@@ -14,23 +14,17 @@ use Rattle.paper.specs.Streams.{pieces, carried}
 use Rattle.paper.specs.Packets.{chunks, joined}
 use Rattle.paper.specs.Queue as Queue
 use Rattle.paper.specs.Reader.{Track, fresh, distance, placed, gathers, moves, arrives, arrive, Packet, packet, notCarried, noPacket, packetOf, sound, Reader, Heard, heard, received, understood, readerStep}
-use Rattle.state.specs.Told.{Res}
+use Rattle.state.specs.Told.{res}
+use Rattle.state.specs.Calls.{Bytes}
 use Rattle.paper.proofs.Table.{Carried, carried-rules}
 use Rattle.shelf.specs.Layout.{recordAt, placeAt, markAt, gatherAt, pieceAt, readerBytes}
 use Rattle.shelf.specs.View.{trackIn, readerIn}
 use Rattle.shelf.specs.Range.{Fits, Fit}
 use Rattle.shelf.specs.Received.{recordedOn, gathersOn, movesOn, arrivesOn, arrivedOn, understoodOn, receivedOn, readOf}
+use Rattle.shelf.specs.Runs.{Left, Agrees}
 use Rattle.shelf.proofs.Ranges.{both, true-fit}
 use Rattle.shelf.proofs.Packets.{Shaped, shaped}
 use Rattle.shelf.proofs.Gathered.{piece-snoc, Elsewhere, elsewhere-trans, record-elsewhere, body-elsewhere, record-track, record-fits, track-same, fits-same, follows}
-
--- Bytes x that a call on bytes s leaves: they hold the reader r, and fit; they are as many, and those past the reader's are as
--- they were.
-pub record Left (x s : List ℕ) (r : Reader) : Type 0 where
-  pub held : readerIn x ≡ r
-  pub fits : Fit x
-  pub long : length x ≡ length s
-  pub past : drop readerBytes x ≡ drop readerBytes s
 
 -- nothing stored
 untouched : (s : List ℕ) → Fit s → Left s s (readerIn s)
@@ -175,10 +169,6 @@ module _ (s : List ℕ) (f : Fit s) (t : ℕ) (c : carried t ≡ true) where
 
 -- ---- a packet's fields
 
--- bytes are below 256
-abbrev pub Bytes : List ℕ → Type 0
-Bytes f = (i : ℕ) → getD f i 0 < 256
-
 -- a count has 12 bits
 abbrev pub Counts : ℕ → Type 0
 Counts n = n < 4096
@@ -200,16 +190,6 @@ received-left s f room g b = at (ltb room 776)
         (cond w (heard 24 [] (readerIn s)) (understood (readerIn s) (packetOf f)) .next)
     at true = untouched s g
     at false = understood-left s g (packetOf f) (shaped Counts f (omega (arith, b 6, b 7)))
-
--- What a call on bytes s came to, and what document 01's reader told, with the output o that was lent: the same reply; its bytes
--- at the output's front, the rest as it was; bytes that hold the reader that is left, and fit; bytes past the reader's as they were.
-pub record Agrees (r : Res) (p : Heard) (o s : List ℕ) : Type 0 where
-  pub reply : r .reply ≡ p .reply
-  pub out : r .out ≡ put o 0 (p .out)
-  pub held : readerIn (r .state) ≡ p .next
-  pub fits : Fit (r .state)
-  pub long : length (r .state) ≡ length s
-  pub past : drop readerBytes (r .state) ≡ drop readerBytes s
 
 -- one call is one step
 pub steps : (s f o : List ℕ) → Fit s → Bytes f → Agrees (readOf s f o) (readerStep (readerIn s) f (length o)) o s

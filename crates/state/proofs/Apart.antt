@@ -2,11 +2,11 @@
 -- `..-same` says it of two lists that agree there, `..-apart` of a run that is stored before or after. Assumes nothing.
 use mathlib.Core.Path.{_≡_, refl, sym, ap, _∙_, subst, fun-ext}
 use mathlib.Core.Bool.{Bool, true, false, cond}
-use mathlib.Core.List.{List, map}
+use mathlib.Core.List.{List, [], _∷_, _++_, map}
 use mathlib.Core.Logic.{_⊎_, inl, inr, ⊎-elim}
 use Prim.{Dec, yes, no}
 use Prim.Native.Nat.{ℕ, zero, suc, _+_, _-_, _*_, _/_, _%_, _≤_, _<_}
-use native.Mathlib.Nat.{add-assoc, add-zero, suc-mul}
+use native.Mathlib.Nat.{add-assoc, add-zero, zero-mul, suc-mul}
 use native.Mathlib.Decide.{decLt}
 use native.Mathlib.Omega.{arith}
 use lib.Dec.{eqb, leb, ltb}
@@ -76,6 +76,13 @@ module _ {x y : List ℕ} {lo hi : ℕ} (p : Same x y lo hi) where
       let rest : chunks w n (drop (i + w) x) ≡ chunks w n (drop (i + w) y) =
       chunks-same w n (i + w) (omega arith) (omega arith) (omega arith) (omega arith) in
       rw (head, drop-drop w i x, drop-drop w i y, rest)
+
+-- one chunk more
+pub chunks-snoc : (w n : ℕ) (l : List ℕ) → chunks w (suc n) l ≡ chunks w n l ++ (part l (n * w) w ∷ [])
+chunks-snoc w zero l = rw (zero-mul w)
+chunks-snoc w (suc n) l =
+    let e : w + n * w ≡ suc n * w = rw (suc-mul n w) (omega arith) in
+    rw (chunks-snoc w n (drop w l), drop-drop (n * w) w l, e)
 
 -- ---- each part depends on its own bytes
 

@@ -1,7 +1,8 @@
 -- The controller's lent bytes: where each number stands (Layout), the controller that they hold (View), the ranges that a call
--- tests (Range), fresh bytes (Fresh), and what a call tells (Told).
+-- tests (Range), fresh bytes (Fresh), and what a call tells (Told); and calls on lent bytes, the controller's or the reader's (Calls).
 pub mod Layout
 pub mod View
 pub mod Range
 pub mod Fresh
 pub mod Told
+pub mod Calls
