@@ -1,16 +1,17 @@
-// The loop of a program that speaks with the controller: frames as lines of hexadecimal from standard input, what the controller
-// says to each on standard output.
+// The loop of a program that speaks with a machine, the controller or the reader: frames as lines of hexadecimal from standard
+// input, what the machine says to each on standard output.
 //
 // The answers to what one read brought are written before the next read, so that whoever types a line, or sends one through a
 // pipe, has its answer.
 use libc::STDERR_FILENO;
 use libc::STDIN_FILENO;
 use libc::STDOUT_FILENO;
+use session::Machine;
 ghost use mathlib.Core.Path.{_≡_};
 ghost use Prim.Native.Nat.{_+_, _≤_};
 ghost use lib.ListN.{length};
 ghost use Rattle.hexline.specs.Lines.{longest, Buffers};
-ghost use Rattle.session.specs.Bench.{mostText, begun};
+ghost use Rattle.session.specs.Programs.{mostText, begun};
 
 // The count of the line still open, and whether to go on.
 struct Work {
@@ -29,6 +30,7 @@ fn say(text: &[u8]) -> bool {
 
 // Answers the lines of a chunk, and writes the answers: whenever `out` is full, and at the end.
 fn answer_all(
+    machine: Machine,
     chunk: &[u8],
     n: usize,
     line: &mut [u8],
@@ -42,7 +44,7 @@ fn answer_all(
     let mut at = 0;
     let mut k = n;
     while at < chunk.len() {
-        let t = session::fill(chunk, at, k, line, frame, state, out);
+        let t = session::fill(machine, chunk, at, k, line, frame, state, out);
         at = t.at;
         k = t.n;
         let used = t.used;
@@ -54,15 +56,23 @@ fn answer_all(
 }
 
 // At the end of the input: what an open line still gets.
-fn close(n: usize, line: &[u8], frame: &mut [u8], state: &mut [u8], out: &mut [u8])
+fn close(
+    machine: Machine,
+    n: usize,
+    line: &[u8],
+    frame: &mut [u8],
+    state: &mut [u8],
+    out: &mut [u8],
+)
     requires { ⌜ (Buffers n (now line) (now frame)) × (mostText ≤ length (now out)) ⌝ }
 {
-    let used = session::finish(n, line, frame, state, out);
+    let used = session::finish(machine, n, line, frame, state, out);
     say(&out[..used]);
 }
 
 // Reads once, and answers what came.
 fn turn(
+    machine: Machine,
     n: usize,
     chunk: &mut [u8],
     line: &mut [u8],
@@ -79,21 +89,28 @@ fn turn(
         return Work { n: 0, on: false };
     }
     if got == 0 {
-        close(n, line, frame, state, out);
+        close(machine, n, line, frame, state, out);
         return Work { n: 0, on: false };
     }
     let k = io::count(got, chunk);
-    answer_all(&chunk[..k], n, line, frame, state, out)
+    answer_all(machine, &chunk[..k], n, line, frame, state, out)
 }
 
 // A proved loop has to end, and nothing says that the input does: so it counts its turns down from a number that no run uses up.
-fn run(chunk: &mut [u8], line: &mut [u8], frame: &mut [u8], state: &mut [u8], out: &mut [u8])
-    requires { ⌜ (Buffers 0 (now line) (now frame)) × (mostText ≤ length (now out)) × (now state ≡ begun) ⌝ }
+fn run(
+    machine: Machine,
+    chunk: &mut [u8],
+    line: &mut [u8],
+    frame: &mut [u8],
+    state: &mut [u8],
+    out: &mut [u8],
+)
+    requires { ⌜ (Buffers 0 (now line) (now frame)) × (mostText ≤ length (now out)) × (now state ≡ begun machine) ⌝ }
 {
     let mut turns = u64::MAX;
     let mut n = 0;
     while turns > 0 {
-        let w = turn(n, chunk, line, frame, state, out);
+        let w = turn(machine, n, chunk, line, frame, state, out);
         if !w.on {
             return;
         }
@@ -102,13 +119,27 @@ fn run(chunk: &mut [u8], line: &mut [u8], frame: &mut [u8], state: &mut [u8], ou
     }
 }
 
-// Serves standard input to its end, from a fresh controller.
-pub fn serve() {
-    let mut state = [0u8; 8713];
+// Serves standard input to its end, from a state that was started.
+fn serve(machine: Machine, state: &mut [u8])
+    requires { ⌜ now state ≡ begun machine ⌝ }
+{
     let mut chunk = [0u8; 65536];
     let mut line = [0u8; 1028];
     let mut frame = [0u8; 514];
     let mut out = [0u8; 65536];
+    run(machine, &mut chunk, &mut line, &mut frame, state, &mut out);
+}
+
+// Program bench: serves from a fresh controller.
+pub fn serve_controller() {
+    let mut state = [0u8; 8713];
     controller::start(&mut state);
-    run(&mut chunk, &mut line, &mut frame, &mut state, &mut out);
+    serve(Machine::Controller, &mut state);
+}
+
+// Program reader: serves from a fresh reader.
+pub fn serve_reader() {
+    let mut state = [0u8; 9960];
+    gather::start(&mut state);
+    serve(Machine::Reader, &mut state);
 }

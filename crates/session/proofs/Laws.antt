@@ -1,12 +1,16 @@
--- Laws of what bench writes for a frame. Assumes nothing.
-use mathlib.Core.Path.{_≡_, refl, ap, _∙_}
-use mathlib.Core.List.{List, [], _∷_, _++_, append-assoc}
+-- Laws of what bench writes for a frame, and reader for a packet. Assumes nothing.
+use mathlib.Core.Path.{_≡_, refl, sym, ap, subst, _∙_}
+use mathlib.Core.List.{List, [], _∷_, _++_, append-assoc, append-nil}
 use Prim.Native.Nat.{ℕ, _+_, _/_, _%_, _<_}
 use native.Mathlib.Omega.{arith}
 use lib.ListN.{length, take, set}
-use Rattle.hexline.specs.Hex.{hexOf, digitOf}
+use Rattle.hexline.specs.Hex.{hexOf, digitOf, decimalOf}
 use Rattle.hexline.proofs.Laws.{stored, stored-two}
+use Rattle.state.specs.Told.{Res}
+use Rattle.shelf.specs.Received.{readOf}
+use Rattle.shelf.proofs.Replies.{Told, replies}
 use Rattle.session.specs.Bench.{written}
+use Rattle.session.specs.Reader.{spaced, lineFor}
 
 -- an empty frame wrote nothing
 pub none-written : (f : List ℕ) → length f ≡ 0 → 0 ≡ written 0 f
@@ -23,3 +27,31 @@ put reply b out out′ at r h l eh el e k m =
     stored out′ r 10 k
     ∙ ap (λ (t : List ℕ). t ++ (10 ∷ [])) (e ∙ ap (λ (t : List ℕ). t ++ hexOf b) (stored-two out at h l m))
     ∙ rw (eh, el) (simp append-assoc)
+
+-- what a call of the reader replies
+pub told : (s f o : List ℕ) (r : Res) → r ≡ readOf s f o → Told (r .reply) f
+told s f o r e = subst (λ (x : Res). Told (x .reply) f) (sym e) (replies s f o)
+
+-- where nothing is handed out nothing is appended
+pub none-spaced : (t b : List ℕ) → length b ≡ 0 → t ≡ t ++ spaced b
+none-spaced t [] e = sym (append-nil t)
+none-spaced t (x ∷ b) e = absurd (omega arith)
+
+-- else a space and the text of the bytes b
+pub some-spaced : (b out out′ : List ℕ) (at r : ℕ) → (length b ≡ 0 → ⊥) → at < length out
+    → take r out′ ≡ take (at + 1) (set out at 32) ++ hexOf b → take r out′ ≡ take at out ++ spaced b
+some-spaced [] out out′ at r n k e = absurd (n refl)
+some-spaced (x ∷ b) out out′ at r n k e =
+    e
+    ∙ ap (λ (t : List ℕ). t ++ hexOf (x ∷ b)) (stored out at 32 k)
+    ∙ append-assoc (take at out) (32 ∷ []) (hexOf (x ∷ b))
+
+-- the line of a reply to a packet: the reply in decimal, what is handed out, and the LF
+pub put-heard : (reply : ℕ) (b out out₁ out₂ : List ℕ) (used at n : ℕ) → take at out₁ ≡ take used out ++ decimalOf reply
+    → take n out₂ ≡ take at out₁ ++ spaced b → n < length out₂
+    → take (n + 1) (set out₂ n 10) ≡ take used out ++ lineFor reply b
+put-heard reply b out out₁ out₂ used at n d e k =
+    stored out₂ n 10 k
+    ∙ ap (λ (t : List ℕ). t ++ (10 ∷ [])) (e ∙ ap (λ (t : List ℕ). t ++ spaced b) d)
+    ∙ append-assoc (take used out ++ decimalOf reply) (spaced b) (10 ∷ [])
+    ∙ append-assoc (take used out) (decimalOf reply) (spaced b ++ (10 ∷ []))

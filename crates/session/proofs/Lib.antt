@@ -1,3 +1,5 @@
--- Laws of what bench writes, and that the cutting of its input does not matter.
+-- Laws of what the programs write; that reader prints what document 01's reader says; and that the cutting of their input does not
+-- matter.
 pub mod Laws
+pub mod Says
 pub mod Cut

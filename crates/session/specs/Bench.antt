@@ -1,16 +1,14 @@
--- Program bench: what it writes for a frame, and for a whole input. Lines are those of `hexline`.
+-- Program bench: what it writes for a frame.
 -- Assumes nothing.
-use Prim.Native.Nat.{ℕ, _+_, _≤_, _<_}
+use Prim.Native.Nat.{ℕ}
 use mathlib.Core.Bool.{cond}
 use mathlib.Core.List.{List, [], _∷_, _++_}
 use lib.Dec.{eqb}
-use lib.ListN.{take, drop, getD, replicate}
+use lib.ListN.{take, getD, replicate}
 use Rattle.hexline.specs.Hex.{hexOf}
-use Rattle.hexline.specs.Lines.{longest, lineOf}
-use Rattle.hexline.specs.Talk.{Answer, Talk, talk, spoken}
+use Rattle.hexline.specs.Talk.{Answer, Way}
 use Rattle.state.specs.Told.{Res}
 use Rattle.machine.specs.Called.{stepOf, startOf}
-use Rattle.session.specs.declared.Turn.{Turn}
 
 -- "Accepted polls write 126 bytes, status 2, others none"; "No refusal touches the output."
 unfoldable pub written : ℕ → List ℕ → ℕ
@@ -32,28 +30,9 @@ blank = replicate 126 0
 abbrev pub answered : List ℕ → Res → Answer
 answered f o = record { text = lineFor f o; state = o .state }
 
-abbrev pub answerTo : List ℕ → List ℕ → Answer
+abbrev pub answerTo : Way
 answerTo s f = answered f (stepOf s f blank)
-
--- what comes of a chunk from index `at` on, where the first `used` bytes of `out` are written and n characters of `line` are open
-abbrev pub toCome : (at n used : ℕ) (chunk line state out : List ℕ) → Talk
-toCome at n used chunk line state out = talk answerTo (take used out) (lineOf n line) state (drop at chunk)
 
 -- the state that bench begins with: a start on zeros
 unfoldable pub begun : List ℕ
 begun = startOf (replicate 8713 0) .state
-
--- all that bench writes for an input
-unfoldable pub bench : List ℕ → List ℕ
-bench input = spoken answerTo begun input
-
--- the longest line: two digits, 126 bytes and an LF
-abbrev pub mostText : ℕ
-mostText = 255
-
--- where a turn stopped that began at `from` of a chunk of that length, with `used` bytes of a buffer of `room` in use
-pub record Within (from size used room : ℕ) (r : Turn) : Type 0 where
-  pub at-most : r .at ≤ size
-  pub small : r .n ≤ longest + 1
-  pub fits : r .used ≤ room
-  pub onward : from < size → used + mostText ≤ room → from < r .at

@@ -10,7 +10,7 @@ use Rattle.console.proofs.answer_all.Statement.{statement}
 use Rattle.console.proofs.answer_all.Tie as tie
 
 abbrev Inv-loop : tie.InvT-loop
-Inv-loop chunk n line₀ frame₀ state₀ out₀ at₀ k₀ line frame state out at k =
+Inv-loop machine chunk n line₀ frame₀ state₀ out₀ at₀ k₀ line frame state out at k =
     (at ≤ length chunk)
     × (k ≤ longest + 1)
     × (length line ≡ length line₀)
@@ -19,7 +19,7 @@ Inv-loop chunk n line₀ frame₀ state₀ out₀ at₀ k₀ line frame state ou
     × (length out ≡ length out₀)
 
 abbrev μ-loop : tie.MeasureT-loop
-μ-loop chunk n line₀ frame₀ state₀ out₀ at₀ k₀ line frame state out at k = length chunk - at
+μ-loop machine chunk n line₀ frame₀ state₀ out₀ at₀ k₀ line frame state out at k = length chunk - at
 
 loop-holds : tie.Need-loop-holds Inv-loop μ-loop
 loop-holds c = (omega arith, omega arith, refl, refl, refl, refl)
@@ -33,7 +33,7 @@ slice-reshare-prefix-say c = search needs
 slice-aggregate-say : tie.Need-slice-aggregate-say Inv-loop μ-loop
 slice-aggregate-say c =
     let f = c .before .before .before .before .before .before .before .before .before .fill in
-    sym (length-take-le (f .result .used) (f .last .1 .1 .1 .1 .1 .1 .0) (omega (arith, f .kept .1 .1 .1 .1 .1 .1 .0, f .ensures .0 .fits)))
+    sym (length-take-le (f .result .used) (f .last .1 .1 .1 .1 .1 .1 .1 .0) (omega (arith, f .kept .1 .1 .1 .1 .1 .1 .1 .0, f .ensures .0 .fits)))
 
 say-requires : tie.Need-say-requires Inv-loop μ-loop
 say-requires c κs = search needs
@@ -65,7 +65,7 @@ loop-again : tie.Need-loop-again Inv-loop μ-loop
 loop-again c =
     let f = c .before .before .before .before .before .before .before .before .before .before .before .fill in
     let l = c .before .before .before .before .before .before .before .before .before .before .before .before .before .before .before .before .before .loop in
-    (f .ensures .0 .at-most, f .ensures .0 .small, f .kept .1 .1 .1 .0 ∙ l .inv .2, f .kept .1 .1 .1 .1 .0 ∙ l .inv .3, f .kept .1 .1 .1 .1 .1 .0 ∙ l .inv .4, f .kept .1 .1 .1 .1 .1 .1 .0 ∙ l .inv .5)
+    (f .ensures .0 .at-most, f .ensures .0 .small, f .kept .1 .1 .1 .1 .0 ∙ l .inv .2, f .kept .1 .1 .1 .1 .1 .0 ∙ l .inv .3, f .kept .1 .1 .1 .1 .1 .1 .0 ∙ l .inv .4, f .kept .1 .1 .1 .1 .1 .1 .1 .0 ∙ l .inv .5)
 
 same-length-5 : tie.Need-same-length-5 Inv-loop μ-loop
 same-length-5 c = search needs

@@ -13,7 +13,7 @@ slice-reshare-prefix-say : tie.Need-slice-reshare-prefix-say
 slice-reshare-prefix-say c = search needs
 
 slice-aggregate-say : tie.Need-slice-aggregate-say
-slice-aggregate-say c = sym (length-take-le (c .before .before .before .before .before .before .before .finish .result) (c .before .before .before .before .before .before .before .finish .last .1 .1 .1 .1 .0) (omega (arith, c .before .before .before .before .before .before .before .finish .kept .1 .1 .1 .1 .0, c .before .before .before .before .before .before .before .finish .ensures .0)))
+slice-aggregate-say c = sym (length-take-le (c .before .before .before .before .before .before .before .finish .result) (c .before .before .before .before .before .before .before .finish .last .1 .1 .1 .1 .1 .0) (omega (arith, c .before .before .before .before .before .before .before .finish .kept .1 .1 .1 .1 .1 .0, c .before .before .before .before .before .before .before .finish .ensures .0)))
 
 say-requires : tie.Need-say-requires
 say-requires c κs = search needs

@@ -8,7 +8,7 @@ use Rattle.console.proofs.run.Statement.{statement}
 use Rattle.console.proofs.run.Tie as tie
 
 abbrev Inv-loop : tie.InvT-loop
-Inv-loop chunk₀ line₀ frame₀ state₀ out₀ turns₀ n₀ chunk line frame state out turns n =
+Inv-loop machine chunk₀ line₀ frame₀ state₀ out₀ turns₀ n₀ chunk line frame state out turns n =
     (n ≤ longest + 1)
     × (length chunk ≡ length chunk₀)
     × (length line ≡ length line₀)
@@ -17,7 +17,7 @@ Inv-loop chunk₀ line₀ frame₀ state₀ out₀ turns₀ n₀ chunk line fram
     × (length out ≡ length out₀)
 
 abbrev μ-loop : tie.MeasureT-loop
-μ-loop chunk₀ line₀ frame₀ state₀ out₀ turns₀ n₀ chunk line frame state out turns n = turns
+μ-loop machine chunk₀ line₀ frame₀ state₀ out₀ turns₀ n₀ chunk line frame state out turns n = turns
 
 loop-holds : tie.Need-loop-holds Inv-loop μ-loop
 loop-holds c = search needs

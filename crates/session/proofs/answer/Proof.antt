@@ -1,36 +1,19 @@
--- `session::answer` meets its contract: the line written is that of the reply and of the bytes that the frame wrote, since the
--- controller's contract says which they are. Assumes nothing.
-use Prim.Native.Nat.{ℕ}
-use mathlib.Core.Path.{_≡_, sym, ap, _∙_}
-use mathlib.Core.List.{List, [], _∷_, _++_}
-use native.Mathlib.Omega.{arith}
-use lib.ListN.{take}
-use lib.Seq.{length-take-le}
-use Rattle.hexline.specs.Hex.{hexOf}
-use Rattle.state.specs.Told.{Res, res}
-use Rattle.machine.specs.Called.{stepOf}
-use Rattle.session.specs.Bench.{answered, blank}
+-- `session::answer` meets its contract: the machine of each arm is the one that the match found. Assumes nothing.
 use borrow.Author.Needs.{needs}
 use Rattle.session.proofs.answer.Statement.{statement}
 use Rattle.session.proofs.answer.Tie as tie
 
-slice-aggregate-frame : tie.Need-slice-aggregate-frame
-slice-aggregate-frame c = search needs
+enum-told : tie.Need-enum-told
+enum-told c = search needs
 
-frame-requires : tie.Need-frame-requires
-frame-requires c κs = search needs
+answer-controller-requires : tie.Need-answer-controller-requires
+answer-controller-requires c κs = search needs
 
-count-of-requires : tie.Need-count-of-requires
-count-of-requires c κs = search needs
+enum-told-2 : tie.Need-enum-told-2
+enum-told-2 c = search needs
 
-array-share-prefix-piece : tie.Need-array-share-prefix-piece
-array-share-prefix-piece c = search needs
-
-slice-aggregate-put-line : tie.Need-slice-aggregate-put-line
-slice-aggregate-put-line c = sym (length-take-le (c .before .count-of .result) (c .before .before .before .before .before .frame .last .1 .1 .0) (omega (arith, c .before .before .before .before .before .frame .kept .1 .1 .0)))
-
-put-line-requires : tie.Need-put-line-requires
-put-line-requires c κs = omega (arith, c .before .before .before .before .before .before .before .before .before .before .before .before .pre, length-take-le (c .before .before .count-of .result) (c .before .before .before .before .before .before .frame .last .1 .1 .0) (omega (arith, c .before .before .before .before .before .before .frame .kept .1 .1 .0)))
+answer-reader-requires : tie.Need-answer-reader-requires
+answer-reader-requires c κs = search needs
 
 same-length : tie.Need-same-length
 same-length c = search needs
@@ -39,32 +22,28 @@ same-length-2 : tie.Need-same-length-2
 same-length-2 c = search needs
 
 returns : tie.Need-returns
-unfolding blank
-returns c =
-    let a = c .before .before .before .before .before .before .before .before .before .before .before .before .before .before .before .args in
-    let d = c .before .before .before .before .before .before .before .before .before .frame in
-    let w = c .before .before .put-line in
-    let front : List ℕ = take (a .used) (a .out .now) in
-    let e : res (d .result) (d .last .1 .1 .0) (d .last .0) ≡ stepOf (a .state .now) (a .f .now) blank = d .ensures in (
-      omega (arith, c .before .before .before .before .before .before .before .before .before .before .before .before .before .before .before .pre, length-take-le (c .before .before .before .before .before .count-of .result) (c .before .before .before .before .before .before .before .before .before .frame .last .1 .1 .0) (omega (arith, c .before .before .before .before .before .before .before .before .before .frame .kept .1 .1 .0))),
-      (
-        w .ensures .1
-            ∙ ap (λ (n : ℕ). front ++ (hexOf (d .result ∷ take n (d .last .1 .1 .0)) ++ (10 ∷ []))) (c .before .before .before .before .before .count-of .ensures .1)
-            ∙ ap (λ (x : Res). front ++ answered (a .f .now) x .text) e,
-        ap (λ (x : Res). x .state) e,
-      ),
-    )
+returns c = rw (c .before .before .before .before .before .before .before .enum-told .given .1) (c .before .before .before .before .answer-controller .ensures)
+
+same-length-3 : tie.Need-same-length-3
+same-length-3 c = search needs
+
+same-length-4 : tie.Need-same-length-4
+same-length-4 c = search needs
+
+returns-2 : tie.Need-returns-2
+returns-2 c = rw (c .before .before .before .before .before .before .before .enum-told2 .given .1) (c .before .before .before .before .answer-reader .ensures)
 
 pub answer-spec : {M : Type 1} → statement M
 answer-spec =
     tie.close
     (tie.spec
-    slice-aggregate-frame
-    frame-requires
-    count-of-requires
-    array-share-prefix-piece
-    slice-aggregate-put-line
-    put-line-requires
+    enum-told
+    answer-controller-requires
+    enum-told-2
+    answer-reader-requires
     same-length
     same-length-2
-    returns)
+    returns
+    same-length-3
+    same-length-4
+    returns-2)

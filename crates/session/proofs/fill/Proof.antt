@@ -5,12 +5,12 @@ use mathlib.Core.Path.{_≡_, refl, _∙_}
 use native.Mathlib.Omega.{arith}
 use lib.ListN.{length}
 use Rattle.hexline.specs.Lines.{longest}
-use Rattle.session.specs.Bench.{mostText, toCome}
+use Rattle.session.specs.Programs.{mostText, toCome}
 use Rattle.session.proofs.fill.Statement.{statement}
 use Rattle.session.proofs.fill.Tie as tie
 
 abbrev Inv-loop : tie.InvT-loop
-Inv-loop chunk from n line₀ frame₀ state₀ out₀ at₀ k₀ used₀ line frame state out at k used =
+Inv-loop machine chunk from n line₀ frame₀ state₀ out₀ at₀ k₀ used₀ line frame state out at k used =
     (at ≤ length chunk)
     × (k ≤ longest + 1)
     × (used ≤ length out)
@@ -20,10 +20,10 @@ Inv-loop chunk from n line₀ frame₀ state₀ out₀ at₀ k₀ used₀ line f
     × (length out ≡ length out₀)
     × (from ≤ at)
     × (0 < used → from < at)
-    × (toCome at k used chunk line state out ≡ toCome from n 0 chunk line₀ state₀ out₀)
+    × (toCome machine at k used chunk line state out ≡ toCome machine from n 0 chunk line₀ state₀ out₀)
 
 abbrev μ-loop : tie.MeasureT-loop
-μ-loop chunk from n line₀ frame₀ state₀ out₀ at₀ k₀ used₀ line frame state out at k used = length chunk - at
+μ-loop machine chunk from n line₀ frame₀ state₀ out₀ at₀ k₀ used₀ line frame state out at k used = length chunk - at
 
 loop-holds : tie.Need-loop-holds Inv-loop μ-loop
 loop-holds c = (omega arith, omega arith, omega arith, refl, refl, refl, refl, omega arith, (λ h. absurd (omega arith)), refl)
@@ -73,11 +73,11 @@ loop-again c =
     let m : l .at < o .result .at = o .ensures .0 .onward h k in (
       o .ensures .0 .at-most,
       o .ensures .0 .small,
-      omega (arith, o .ensures .0 .fits, o .kept .1 .1 .1 .1 .1 .1 .0),
-      o .kept .1 .1 .1 .0 ∙ l .inv .3,
-      o .kept .1 .1 .1 .1 .0 ∙ l .inv .4,
-      o .kept .1 .1 .1 .1 .1 .0 ∙ l .inv .5,
-      o .kept .1 .1 .1 .1 .1 .1 .0 ∙ l .inv .6,
+      omega (arith, o .ensures .0 .fits, o .kept .1 .1 .1 .1 .1 .1 .1 .0),
+      o .kept .1 .1 .1 .1 .0 ∙ l .inv .3,
+      o .kept .1 .1 .1 .1 .1 .0 ∙ l .inv .4,
+      o .kept .1 .1 .1 .1 .1 .1 .0 ∙ l .inv .5,
+      o .kept .1 .1 .1 .1 .1 .1 .1 .0 ∙ l .inv .6,
       omega arith,
       (λ u. omega arith),
       o .ensures .1 ∙ l .inv .9,

@@ -5,7 +5,7 @@ use native.Mathlib.Omega.{arith}
 use Rattle.hexline.specs.Lines.{lineOf, frameOf}
 use Rattle.hexline.specs.Talk.{Answer, lastly}
 use Rattle.hexline.proofs.Talk.{last-line}
-use Rattle.session.specs.Bench.{answerTo}
+use Rattle.session.specs.Programs.{answerTo}
 use borrow.Author.Needs.{needs}
 use Rattle.session.proofs.finish.Statement.{statement}
 use Rattle.session.proofs.finish.Tie as tie
@@ -13,7 +13,7 @@ use Rattle.session.proofs.finish.Tie as tie
 returns : tie.Need-returns
 returns c =
     let a = c .before .before .before .before .before .args in
-    let last : ℕ → Answer = λ m. lastly answerTo (lineOf m (a .line .now)) (a .state .now) in
+    let last : ℕ → Answer = λ m. lastly (answerTo (a .machine)) (lineOf m (a .line .now)) (a .state .now) in
     let e : 0 ≡ a .n = sym (c .if1 .taken) in
     (omega arith, (ap (λ (m : ℕ). last m .text) e, ap (λ (m : ℕ). last m .state) e))
 
@@ -33,8 +33,8 @@ returns-2 : tie.Need-returns-2
 returns-2 c =
     let a = c .before .before .before .before .before .before .before .before .before .before .before .before .before .before .before .args in
     let w = c .before .before .before .before .before .before .reply in
-    let e : answerTo (a .state .now) (frameOf (lineOf (a .n) (a .line .now))) ≡ lastly answerTo (lineOf (a .n) (a .line .now)) (a .state .now) =
-    last-line answerTo (a .n) (a .line .now) (a .state .now) (omega (arith, c .before .before .before .before .before .before .before .before .before .before .before .before .before .before .before .pre)) (c .before .before .before .before .before .before .before .before .before .before .if1 .left) in
+    let e : answerTo (a .machine) (a .state .now) (frameOf (lineOf (a .n) (a .line .now))) ≡ lastly (answerTo (a .machine)) (lineOf (a .n) (a .line .now)) (a .state .now) =
+    last-line (answerTo (a .machine)) (a .n) (a .line .now) (a .state .now) (omega (arith, c .before .before .before .before .before .before .before .before .before .before .before .before .before .before .before .pre)) (c .before .before .before .before .before .before .before .before .before .before .if1 .left) in
     (w .ensures .0, (w .ensures .1 .0 ∙ ap (λ (x : Answer). x .text) e, w .ensures .1 .1 ∙ ap (λ (x : Answer). x .state) e))
 
 pub finish-spec : {M : Type 1} → statement M

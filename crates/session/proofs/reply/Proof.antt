@@ -5,7 +5,7 @@ use mathlib.Core.List.{List, _++_}
 use native.Mathlib.Omega.{arith}
 use lib.ListN.{take}
 use lib.Seq.{length-take-le}
-use Rattle.session.specs.Bench.{answerTo}
+use Rattle.session.specs.Programs.{answerTo}
 use borrow.Author.Needs.{needs}
 use Rattle.session.proofs.reply.Statement.{statement}
 use Rattle.session.proofs.reply.Tie as tie
@@ -38,8 +38,8 @@ returns c =
     let w = c .before .before .before .before .answer in (
       w .ensures .0,
       (
-        w .ensures .1 .0 ∙ ap (λ (x : List ℕ). take (a .used) (a .out .now) ++ answerTo (a .state .now) x .text) (f .ensures .1),
-        w .ensures .1 .1 ∙ ap (λ (x : List ℕ). answerTo (a .state .now) x .state) (f .ensures .1),
+        w .ensures .1 .0 ∙ ap (λ (x : List ℕ). take (a .used) (a .out .now) ++ answerTo (a .machine) (a .state .now) x .text) (f .ensures .1),
+        w .ensures .1 .1 ∙ ap (λ (x : List ℕ). answerTo (a .machine) (a .state .now) x .state) (f .ensures .1),
       ),
     )
 

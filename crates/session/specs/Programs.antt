@@ -1,0 +1,48 @@
+-- Both programs: each takes lines of hexadecimal "the same way", and its machine answers each frame. Lines are those of `hexline`.
+-- Assumes nothing.
+use Prim.Native.Nat.{ℕ, _+_, _≤_, _<_}
+use mathlib.Core.List.{List}
+use lib.ListN.{take, drop}
+use Rattle.hexline.specs.Lines.{longest, lineOf}
+use Rattle.hexline.specs.Talk.{Way, Talk, talk, spoken}
+use Rattle.session.specs.Bench as Bench
+use Rattle.session.specs.Reader as Reader
+use Rattle.session.specs.declared.Turn.{Turn}
+use Rattle.session.specs.declared.Machine.{Machine}
+use Rattle.session.specs.declared.Machine.the-variants.{Controller, Reader}
+
+-- what a machine says to a frame, as text, and the state that it leaves
+abbrev pub answerTo : Machine → Way
+answerTo Controller = Bench.answerTo
+answerTo Reader = Reader.answerTo
+
+-- the state that its program begins with
+abbrev pub begun : Machine → List ℕ
+begun Controller = Bench.begun
+begun Reader = Reader.begun
+
+-- all that its program prints for an input
+abbrev pub printed : Machine → List ℕ → List ℕ
+printed m input = spoken (answerTo m) (begun m) input
+
+-- program bench, and program reader
+unfoldable pub bench : List ℕ → List ℕ
+bench = printed Controller
+
+unfoldable pub reader : List ℕ → List ℕ
+reader = printed Reader
+
+-- what comes of a chunk from index `at` on, where the first `used` bytes of `out` are written and n characters of `line` are open
+abbrev pub toCome : Machine → (at n used : ℕ) (chunk line state out : List ℕ) → Talk
+toCome m at n used chunk line state out = talk (answerTo m) (take used out) (lineOf n line) state (drop at chunk)
+
+-- the longest line is the reader's: two digits, a space, 776 bytes and an LF
+abbrev pub mostText : ℕ
+mostText = 1556
+
+-- where a turn stopped that began at `from` of a chunk of that length, with `used` bytes of a buffer of `room` in use
+pub record Within (from size used room : ℕ) (r : Turn) : Type 0 where
+  pub at-most : r .at ≤ size
+  pub small : r .n ≤ longest + 1
+  pub fits : r .used ≤ room
+  pub onward : from < size → used + mostText ≤ room → from < r .at
