@@ -1,17 +1,47 @@
-# make test: the gate. make demo: what there is to see.
-# Programs are compiled for x86-64; elsewhere they run under Debian's qemu-user.
-RUN := $(if $(filter x86_64,$(shell uname -m)),,qemu-x86_64)
+# Everything the bureau holds in its hands. Programs and library are for x86-64; elsewhere they run under Debian's qemu-user.
+#   make           prove everything, build the library and the programs
+#   make demo      what there is to see, in plain words
+#   make test      the gate: proves everything from nothing, tries every edit that must be refused, runs programs and host tests
+#   make host      the host tests alone
+#   make soak      a longer comparison of library and model (ROUNDS=20)
+#   make measure   instructions and stack against the C model; writes docs/MEASURED.md
+#   make install   library, header and pkg-config file (PREFIX=/usr/local, DESTDIR=)
+PREFIX = /usr/local
+ROUNDS = 20
+LIBRARY = target/staticlib/libssp.a
+PLACE = $(DESTDIR)$(PREFIX)
 
-.PHONY: all test demo
+.PHONY: all demo test host soak measure install
 
 all:
+	@echo "1 of 2: proving every crate and building the programs"
 	rt check
+	@echo "2 of 2: building the C library"
+	rt staticlib ssp
+	@echo "built: $(LIBRARY) include/ssp.h $(wildcard target/bin/*)"
+
+demo:
+	@host/demo
 
 test:
 	.ci/run
 
-# The paper's session through bench; the same session is computed on the definitions by the prover.
-demo:
-	rt check bench
-	@echo "frame -> what the controller says"
-	@$(RUN) target/bin/bench < crates/bench/stdin | paste -d' ' crates/bench/stdin -
+host:
+	host/run
+
+soak: $(LIBRARY)
+	@host/tools make cc run
+	$(MAKE) -C host soak ROUNDS=$(ROUNDS)
+
+measure:
+	host/measure
+
+$(LIBRARY):
+	rt staticlib ssp
+
+install: $(LIBRARY)
+	install -d $(PLACE)/lib/pkgconfig $(PLACE)/include
+	install -m 644 $(LIBRARY) $(PLACE)/lib/libssp.a
+	install -m 644 include/ssp.h $(PLACE)/include/ssp.h
+	sed 's|@PREFIX@|$(PREFIX)|' include/ssp.pc.in > $(PLACE)/lib/pkgconfig/ssp.pc
+	chmod 644 $(PLACE)/lib/pkgconfig/ssp.pc

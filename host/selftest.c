@@ -13,6 +13,9 @@
 #include <stdlib.h>
 #include <string.h>
 
+#include "frames.h"
+#include "lines.h"
+
 /* ------------------------------------------------------------ the checks */
 
 static unsigned long checks_made;
@@ -61,45 +64,6 @@ static void check_bytes(int line, const char *what, const uint8_t *got,
 #define SAME(got, wanted)                                                   \
     check_same(__LINE__, #got, (unsigned long)(got), (unsigned long)(wanted))
 #define BYTES(got, wanted, n) check_bytes(__LINE__, #got, got, wanted, n)
-
-/* ------------------------------------------------- bytes and hexadecimal */
-
-static int digit_of(char c)
-{
-    if (c >= '0' && c <= '9')
-        return c - '0';
-    if (c >= 'A' && c <= 'F')
-        return c - 'A' + 10;
-    if (c >= 'a' && c <= 'f')
-        return c - 'a' + 10;
-    return -1;
-}
-
-/* Turns hexadecimal digits into bytes; "A faulty or over-long line counts as
- * an empty frame": 0 bytes. */
-static size_t from_hex(const char *text, size_t digits, uint8_t *bytes)
-{
-    size_t i;
-
-    if (digits > 1028 || digits % 2 != 0)
-        return 0;
-    for (i = 0; i < digits; i += 2) {
-        int high = digit_of(text[i]), low = digit_of(text[i + 1]);
-        if (high < 0 || low < 0)
-            return 0;
-        bytes[i / 2] = (uint8_t)(high * 16 + low);
-    }
-    return digits / 2;
-}
-
-static unsigned long number(const uint8_t *at, unsigned size)
-{
-    unsigned long value = 0;
-
-    while (size-- > 0)
-        value = value << 8 | *at++;
-    return value;
-}
 
 /* ------------------------------------------------------------ the ledger */
 
@@ -365,25 +329,21 @@ static int text(const char *hex)
 {
     uint8_t frame[514];
 
-    return give(frame, from_hex(hex, strlen(hex), frame));
+    return give(frame, line_bytes(hex, strlen(hex), frame));
 }
 
 static int broadcast(unsigned channel, unsigned seconds, unsigned altitude)
 {
-    uint8_t frame[8] = {1, (uint8_t)(0x0A + channel)};
+    uint8_t frame[FRAME_MOST];
 
-    frame[2] = (uint8_t)(seconds * 4 >> 8);
-    frame[3] = (uint8_t)(seconds * 4);
-    frame[4] = (uint8_t)(altitude >> 8);
-    frame[5] = (uint8_t)altitude;
-    return give(frame, 8);
+    return give(frame, frame_broadcast(frame, channel, seconds * 4, altitude));
 }
 
 static int tick(unsigned reading)
 {
-    uint8_t frame[3] = {3, (uint8_t)(reading >> 8), (uint8_t)reading};
+    uint8_t frame[FRAME_MOST];
 
-    return give(frame, 3);
+    return give(frame, frame_tick(frame, reading));
 }
 
 static int ticks(unsigned count, unsigned reading)
@@ -395,19 +355,21 @@ static int ticks(unsigned count, unsigned reading)
     return reply;
 }
 
+static int order(unsigned id, unsigned value)
+{
+    uint8_t frame[FRAME_MOST];
+
+    return give(frame, frame_order(frame, 0, id, 1, value));
+}
+
 static int set_mode(unsigned value)
 {
-    uint8_t frame[8] = {2, 0x0A, 0, 0x32, 0, 1, 0, (uint8_t)value};
-
-    return give(frame, 8);
+    return order(SET_MODE_ID, value);
 }
 
 static int clear_streams(unsigned mask)
 {
-    uint8_t frame[8] = {2, 0x0A, 0, 0x13, 0, 2, (uint8_t)(mask >> 8),
-                        (uint8_t)mask};
-
-    return give(frame, 8);
+    return order(CLEAR_STREAMS_ID, mask);
 }
 
 static int housekeeping(void)
@@ -417,24 +379,17 @@ static int housekeeping(void)
 
 static int poll_on(unsigned channel)
 {
-    uint8_t frame[2] = {5, (uint8_t)(0x0A + channel)};
+    uint8_t frame[FRAME_MOST];
 
-    return give(frame, 2);
+    return give(frame, frame_poll(frame, channel));
 }
 
 /* Gives one sample of the stream whose bytes follow from seed. */
 static int sample(unsigned stream, unsigned seed)
 {
-    static const unsigned sizes[MODEL_STREAMS] = {
-        [4] = 3, [5] = 2, [6] = 3, [9] = 6, [11] = 512};
-    uint8_t frame[514] = {4, (uint8_t)stream};
-    unsigned i;
+    uint8_t frame[FRAME_MOST];
 
-    for (i = 0; i < sizes[stream]; i++)
-        frame[2 + i] = (uint8_t)(seed * 37 + i * 11);
-    if (stream == MODEL_DEN)
-        frame[2] &= 0x0F;
-    return give(frame, 2 + sizes[stream]);
+    return give(frame, frame_sample(frame, stream, seed));
 }
 
 static void samples(unsigned count, unsigned stream)
@@ -513,7 +468,7 @@ static unsigned impact_now(void)
 static size_t bench_line(const char *line, size_t digits, char *printed)
 {
     uint8_t frame[514];
-    size_t n = from_hex(line, digits, frame), i, at;
+    size_t n = line_bytes(line, digits, frame), i, at;
 
     at = (size_t)sprintf(printed, "%02X", (unsigned)give(frame, n));
     for (i = 0; i < written; i++)
@@ -1294,7 +1249,7 @@ static void test_housekeeping(void)
     SAME(text("020A0016ABCD"), 0);
     SAME(poll_on(1), 0);
     SAME(poll_on(0), 0);
-    SAME(from_hex(wanted, strlen(wanted), bytes), 126);
+    SAME(line_bytes(wanted, strlen(wanted), bytes), 126);
     BYTES(out, bytes, 126);
     part("housekeeping of a fresh controller has zeros from 66 on");
     fresh();

@@ -1,0 +1,13 @@
+# machine.mk: how to build and run programs for x86-64 on this machine.
+# The library is for x86-64; elsewhere programs are cross-compiled and run
+# under Debian's qemu-user.
+ifeq ($(shell uname -m),x86_64)
+CC = cc
+RUN =
+STATIC =
+else
+CC = x86_64-linux-gnu-gcc
+RUN = qemu-x86_64
+STATIC = -static
+endif
+CFLAGS = -std=c99 -O2 -g -Wall -Wextra -Wpedantic -Werror
