@@ -17,7 +17,7 @@ use Rattle.paper.specs.Reader.{readerStart}
 use Rattle.paper.specs.Runs.{replies, readings}
 use Rattle.paper.specs.History.{isAccepted}
 use Rattle.paper.specs.Demands as paper
-use Rattle.paper.specs.Demands.{isPoll, polled, pollOutputs, Arrival, of}
+use Rattle.paper.specs.Demands.{isPoll, polled, pollOutputs, Fate, Arrival, of}
 use Rattle.paper.proofs.Kept.{Kept, kept-start, kept-step, written, writes}
 use Rattle.paper.proofs.Handing.{AtLength, handed-length}
 use Rattle.paper.proofs.Demand3.{demand3}
@@ -136,11 +136,11 @@ delivered xs ys s h quiet gaps lent given k =
 in-order : (xs : List (List ℕ × List ℕ)) (ys : List Arrival) → paper.InOrder (calls xs) ys → InOrder xs ys
 in-order xs ys h quiet gaps lent given k = handed-is ys lent given k ∙ h quiet gaps (calls given) (k .frames)
 
-independent : (ys zs : List Arrival) (s : ℕ) → paper.Independent ys zs s → Independent ys zs s
-independent ys zs s h q q′ e lent lent′ given given′ k k′ =
-    ap (of s) (handed-is ys lent given k)
-    ∙ h q q′ e (calls given) (calls given′) (k .frames) (k′ .frames)
-    ∙ sym (ap (of s) (handed-is zs lent′ given′ k′))
+independent : (xs : List (List ℕ × List ℕ)) (fates fates′ : List Fate) (s : ℕ) → Independent xs fates fates′ s
+independent xs fates fates′ s e q q′ lent lent′ given given′ k k′ =
+    ap (of s) (handed-is _ lent given k)
+    ∙ demand3 .independent (calls xs) fates fates′ s e q q′ (calls given) (calls given′) (k .frames) (k′ .frames)
+    ∙ sym (ap (of s) (handed-is _ lent′ given′ k′))
 
 pub demand3-calls : Demand3
 demand3-calls =
@@ -151,5 +151,5 @@ demand3-calls =
       always =
           λ xs fates n.
           ((λ s. delivered xs _ s (demand3 .always (calls xs) fates n .0 s)), in-order xs _ (demand3 .always (calls xs) fates n .1));
-      independent = λ xs fates fates′ s. independent _ _ s (demand3 .independent (calls xs) fates fates′ s);
+      independent = independent;
     }

@@ -14,7 +14,7 @@ use Rattle.wire.specs.Wire.{be16}
 use Rattle.paper.specs.Frames.{frameOf}
 use Rattle.paper.specs.Streams.{listed}
 use Rattle.paper.specs.History.{isAccepted}
-use Rattle.paper.specs.Demands.{isPoll, polled, Fate, Arrival, arrivals, Quiet, ownOf, arrived, Gaps, Given, of, arrivedWhole}
+use Rattle.paper.specs.Demands.{isPoll, polled, Fate, Arrival, arrivals, fatesOf, Quiet, arrived, Gaps, Given, of, arrivedWhole}
 use Rattle.state.specs.Layout.{stateBytes}
 use Rattle.state.specs.Calls.{Framed, calls}
 use Rattle.machine.specs.Called.{startOf}
@@ -65,10 +65,12 @@ InOrder xs ys =
     Quiet ys → ((s : ℕ) → Gaps 0 (arrived s ys)) → (lent : List ℕ) (given : List (List ℕ × List ℕ)) → Called ys lent given
     → handsOut lent given ≡ arrivedWhole (calls xs) ys
 
-abbrev pub Independent : List Arrival → List Arrival → ℕ → Type 0
-Independent ys zs s =
-    Quiet ys → Quiet zs → ownOf s ys ≡ ownOf s zs → (lent lent′ : List ℕ) (given given′ : List (List ℕ × List ℕ))
-    → Called ys lent given → Called zs lent′ given′ → of s (handsOut lent given) ≡ of s (handsOut lent′ given′)
+abbrev pub Independent : List (List ℕ × List ℕ) → List Fate → List Fate → ℕ → Type 0
+Independent xs fates fates′ s =
+    fatesOf s (polled (calls xs)) fates ≡ fatesOf s (polled (calls xs)) fates′ → Quiet (arrivals (calls xs) fates)
+    → Quiet (arrivals (calls xs) fates′) → (lent lent′ : List ℕ) (given given′ : List (List ℕ × List ℕ))
+    → Called (arrivals (calls xs) fates) lent given → Called (arrivals (calls xs) fates′) lent′ given′
+    → of s (handsOut lent given) ≡ of s (handsOut lent′ given′)
 
 -- The packets on the way are those that the polls among the controller's calls wrote into their outputs, whatever bytes are lent to
 -- it; then as in `Rattle.paper.specs.Demands.Demand3`.
@@ -79,5 +81,4 @@ pub record Demand3 : Type 0 where
   pub in-order : (xs : List (List ℕ × List ℕ)) (fates : List Fate) → InOrder xs (arrivals (calls xs) fates)
   pub always : (xs : List (List ℕ × List ℕ)) (fates : List Fate) (n : ℕ)
       → ((s : ℕ) → Delivered xs (take n (arrivals (calls xs) fates)) s) × InOrder xs (take n (arrivals (calls xs) fates))
-  pub independent : (xs : List (List ℕ × List ℕ)) (fates fates′ : List Fate) (s : ℕ)
-      → Independent (arrivals (calls xs) fates) (arrivals (calls xs) fates′) s
+  pub independent : (xs : List (List ℕ × List ℕ)) (fates fates′ : List Fate) (s : ℕ) → Independent xs fates fates′ s

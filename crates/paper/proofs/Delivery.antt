@@ -20,14 +20,14 @@ use Rattle.paper.specs.Controller.{start}
 use Rattle.paper.specs.Reader.{fresh, readerStart, sound}
 use Rattle.paper.specs.Runs.{Call}
 use Rattle.paper.specs.History.{sentBy}
-use Rattle.paper.specs.Demands.{Polled, polled, piecesQueued, Fate, Arrival, arrivals, Quiet, ownOf, arrived, Gaps, Given, of, handsOut, allAmong, complete, Delivered, Independent}
+use Rattle.paper.specs.Demands.{Polled, polled, piecesQueued, Fate, Arrival, arrivalsFrom, arrivals, fatesOf, Quiet, ownOf, arrived, Gaps, Given, of, handsOut, allAmong, complete, Delivered, Independent, ByArrivals}
 use Rattle.paper.proofs.History.{length-cut}
 use Rattle.paper.proofs.Whole.{Whole, whole-sound, whole-back}
 use Rattle.paper.proofs.Arrivals.{run, piece, bodies, packet, In, Finishes, reads}
 use Rattle.paper.proofs.Reading.{trimmed, reads-one}
 use Rattle.paper.proofs.Sending.{Wholes, sent-whole}
-use Rattle.paper.proofs.Polled.{polled-fine}
-use Rattle.paper.proofs.Way.{Told, AllGenuine, prefix, arrivals-told, told-arrives, told-in, found, given-found, given-roomy, told-pieces}
+use Rattle.paper.proofs.Polled.{polledIn, polled-fine}
+use Rattle.paper.proofs.Way.{Told, AllGenuine, prefix, arrivals-told, told-arrives, told-in, found, given-found, given-roomy, told-pieces, by-fates}
 use Rattle.paper.proofs.Selected.{completeOf, selected}
 
 -- ---- packet q of a stream is the q-th that was queued
@@ -263,9 +263,10 @@ module _ (calls : List Call) (fates : List Fate) (s : ℕ) where
       let r = prefix fates n (λ t. none) (polled calls) in
       subst (λ (l : List Arrival). Delivered calls l s) (sym (r .1)) (delivers calls (r .0) s)
 
-pub independent : (calls : List Call) (fates fates′ : List Fate) (s : ℕ)
-    → Independent (arrivals calls fates) (arrivals calls fates′) s
-independent calls fates fates′ s q q′ e given given′ g g′ =
+-- ---- the other streams do not count
+
+pub by-arrivals : (calls : List Call) (fates fates′ : List Fate) (s : ℕ) → ByArrivals (arrivals calls fates) (arrivals calls fates′) s
+by-arrivals calls fates fates′ s e q q′ given given′ g g′ =
     out fates given g q
     ∙ ap (λ l. trimmed s (run (pieces s) (readerStart s) (found s l))) e
     ∙ sym (out fates′ given′ g′ q′)
@@ -275,3 +276,14 @@ independent calls fates fates′ s q q′ e given given′ g g′ =
     out fs xs h k =
         reads-one s xs (given-roomy (arrivals calls fs) xs h) readerStart
         ∙ ap (λ l. trimmed s (run (pieces s) (readerStart s) l)) (given-found s (arrivals calls fs) xs h k (told calls fs s .1))
+
+pub independent : (calls : List Call) (fates fates′ : List Fate) (s : ℕ) → Independent calls fates fates′ s
+unfolding arrivals
+independent calls fates fates′ s e = by-arrivals calls fates fates′ s (own fates ∙ ap arrive e ∙ sym (own fates′))
+  where
+    -- by the fates of stream s alone
+    arrive : List Fate → List Polled
+    arrive fs = ownOf s (arrivalsFrom (λ t. none) (polledIn s (polled calls)) fs)
+
+    own : (fs : List Fate) → ownOf s (arrivals calls fs) ≡ arrive (fatesOf s (polled calls) fs)
+    own fs = by-fates s fs (λ t. none) (λ t. none) (polled calls) (λ t. tt) refl

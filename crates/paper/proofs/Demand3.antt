@@ -2,7 +2,7 @@
 -- Assumes nothing.
 use Rattle.paper.specs.Demands.{Demand3}
 use Rattle.paper.proofs.Polled.{polled-numbered, polled-outputs}
-use Rattle.paper.proofs.Delivery.{delivers, always, independent}
+use Rattle.paper.proofs.Delivery.{delivers, always, independent, by-arrivals}
 use Rattle.paper.proofs.Together.{in-order, in-order-always}
 
 pub demand3 : Demand3
@@ -14,4 +14,5 @@ demand3 =
       in-order = in-order;
       always = λ calls fates n. ((λ s. always calls fates s n), in-order-always calls fates n);
       independent = independent;
+      by-arrivals = by-arrivals;
     }

@@ -17,7 +17,7 @@ use Rattle.paper.specs.Queue.{put}
 use Rattle.paper.specs.Reader as reader
 use Rattle.paper.specs.Reader.{Packet, packet, notCarried, noPacket, packetOf, sound, Reader, heard, received, understood, readerStart}
 use Rattle.paper.specs.Runs.{Call}
-use Rattle.paper.specs.Demands.{Polled, Fate, lost, came, again, noise, Arrival, own, strange, repeats, arrivalsFrom, NoPacket, Quiet, ownOf, Gaps, Given}
+use Rattle.paper.specs.Demands.{Polled, Fate, lost, came, again, noise, Arrival, own, strange, repeats, arrivalsFrom, fatesOf, NoPacket, Quiet, ownOf, Gaps, Given}
 use Rattle.paper.proofs.Arrivals.{In, Arrives, piece}
 use Rattle.paper.proofs.Reading.{mine, packetsOf, Roomy, has-room}
 use Rattle.paper.proofs.Polled.{only, polledIn, Fine, fine-lower, Genuine, Genuines}
@@ -219,3 +219,68 @@ pub told-pieces : (s : ℕ) (H : List (List ℕ)) (ps : List Polled) (lo : ℕ) 
 unfolding found
 told-pieces s H [] lo t = refl
 told-pieces s H (p ∷ ps) lo t = rw (t .2, eq-eqb s s refl) (ap (λ l. (p .number % 4096, getD H (p .number) []) ∷ l) (told-pieces s H ps (suc (p .number)) (t .3)))
+
+-- ---- the same fates of a stream, the same arrivals of it
+
+-- the last arrival of a stream is of that stream
+abbrev OfStream : ℕ → Option Polled → Type 0
+OfStream t none = Unit {0}
+OfStream t (some p) = p .stream ≡ t
+
+module _ (s : ℕ) where
+  put-stream : (last : ℕ → Option Polled) (p : Polled) → ((t : ℕ) → OfStream t (last t)) → (t : ℕ)
+      → OfStream t (put last (p .stream) (some p) t)
+  unfolding put
+  put-stream last p h t = at (eqb (p .stream) t) refl
+    where
+      at : (b : Bool) → eqb (p .stream) t ≡ b → OfStream t (cond b (some p) (last t))
+      at true e = eqb-true (p .stream) t e
+      at false e = h t
+
+  repeats-same : (o : Option Polled) (ys zs : List Arrival) → ownOf s ys ≡ ownOf s zs → ownOf s (repeats o ys) ≡ ownOf s (repeats o zs)
+  unfolding ownOf
+  repeats-same none ys zs e = e
+  repeats-same (some p) ys zs e = ap (λ l. cond (eqb (p .stream) s) (p ∷ l) l) e
+
+  repeats-other : (t : ℕ) (o : Option Polled) (ys : List Arrival) → OfStream t o → eqb t s ≡ false → ownOf s (repeats o ys) ≡ ownOf s ys
+  unfolding ownOf
+  repeats-other t none ys m e = refl
+  repeats-other t (some p) ys m e = rw (m, e)
+
+  pub by-fates : (fates : List Fate) (last last′ : ℕ → Option Polled) (ps : List Polled) → ((t : ℕ) → OfStream t (last t))
+      → last s ≡ last′ s
+      → ownOf s (arrivalsFrom last ps fates) ≡ ownOf s (arrivalsFrom last′ (polledIn s ps) (fatesOf s ps fates))
+  unfolding arrivalsFrom fatesOf ownOf only put
+  by-fates [] last last′ ps m e = refl
+  by-fates (lost ∷ fs) last last′ [] m e = by-fates fs last last′ [] m e
+  by-fates (lost ∷ fs) last last′ (p ∷ ps) m e = at (eqb (p .stream) s) (by-fates fs last last′ ps m e)
+    where
+      at : (b : Bool) → ownOf s (arrivalsFrom last ps fs) ≡ ownOf s (arrivalsFrom last′ (polledIn s ps) (fatesOf s ps fs))
+          → ownOf s (arrivalsFrom last ps fs)
+          ≡ ownOf s (arrivalsFrom last′ (cond b (p ∷ polledIn s ps) (polledIn s ps)) (cond b (lost ∷ fatesOf s ps fs) (fatesOf s ps fs)))
+      at true h = h
+      at false h = h
+  by-fates (came ∷ fs) last last′ [] m e = by-fates fs last last′ [] m e
+  by-fates (came ∷ fs) last last′ (p ∷ ps) m e =
+      at (eqb (p .stream) s) refl (λ l k. by-fates fs (put last (p .stream) (some p)) l ps (put-stream last p m) k)
+    where
+      rest : List Arrival
+      rest = arrivalsFrom (put last (p .stream) (some p)) ps fs
+
+      at : (b : Bool) → eqb (p .stream) s ≡ b
+          → ((l : ℕ → Option Polled) → put last (p .stream) (some p) s ≡ l s
+          → ownOf s rest ≡ ownOf s (arrivalsFrom l (polledIn s ps) (fatesOf s ps fs)))
+          → cond b (p ∷ ownOf s rest) (ownOf s rest)
+          ≡ ownOf s (arrivalsFrom last′ (cond b (p ∷ polledIn s ps) (polledIn s ps)) (cond b (came ∷ fatesOf s ps fs) (fatesOf s ps fs)))
+      at true t ih = rw t (ap (λ l. p ∷ l) (ih (put last′ (p .stream) (some p)) (rw t)))
+      at false t ih = ih last′ (rw t e)
+  by-fates (again t ∷ fs) last last′ ps m e = at (eqb t s) refl (by-fates fs last last′ ps m e)
+    where
+      at : (b : Bool) → eqb t s ≡ b → ownOf s (arrivalsFrom last ps fs) ≡ ownOf s (arrivalsFrom last′ (polledIn s ps) (fatesOf s ps fs))
+          → ownOf s (repeats (last t) (arrivalsFrom last ps fs))
+          ≡ ownOf s (arrivalsFrom last′ (polledIn s ps) (cond b (again t ∷ fatesOf s ps fs) (fatesOf s ps fs)))
+      at true k h =
+          let same : last t ≡ last′ t = ap last (eqb-true t s k) ∙ e ∙ ap last′ (sym (eqb-true t s k)) in
+          ap (λ o. ownOf s (repeats o (arrivalsFrom last ps fs))) same ∙ repeats-same (last′ t) _ _ h
+      at false k h = repeats-other t (last t) (arrivalsFrom last ps fs) (m t) k ∙ h
+  by-fates (noise f ∷ fs) last last′ ps m e = by-fates fs last last′ ps m e

@@ -211,11 +211,28 @@ InOrder calls ys =
 
 -- ---- "What is lost or repeated in one stream changes nothing handed out of another."
 
--- Whatever becomes of the other streams, and however many pieces of this one go missing: the same arrivals of stream s, the same
--- packets of stream s handed out.
-abbrev pub Independent : List Arrival → List Arrival → ℕ → Type 0
-Independent ys zs s =
-    Quiet ys → Quiet zs → ownOf s ys ≡ ownOf s zs → (given given′ : List Call) → Given ys given → Given zs given′
+-- the fates of stream s alone, of packets in the order polled
+unfoldable pub fatesOf : ℕ → List Polled → List Fate → List Fate
+fatesOf s ps [] = []
+fatesOf s [] (lost ∷ fs) = fatesOf s [] fs
+fatesOf s (p ∷ ps) (lost ∷ fs) = cond (eqb (p .stream) s) (lost ∷ fatesOf s ps fs) (fatesOf s ps fs)
+fatesOf s [] (came ∷ fs) = fatesOf s [] fs
+fatesOf s (p ∷ ps) (came ∷ fs) = cond (eqb (p .stream) s) (came ∷ fatesOf s ps fs) (fatesOf s ps fs)
+fatesOf s ps (again t ∷ fs) = cond (eqb t s) (again t ∷ fatesOf s ps fs) (fatesOf s ps fs)
+fatesOf s ps (noise f ∷ fs) = fatesOf s ps fs
+
+-- The same fates of stream s, the same packets of stream s handed out: whatever is lost or repeated in the others, and however many
+-- pieces of this one go missing.
+abbrev pub Independent : List Call → List Fate → List Fate → ℕ → Type 0
+Independent calls fates fates′ s =
+    fatesOf s (polled calls) fates ≡ fatesOf s (polled calls) fates′ → Quiet (arrivals calls fates) → Quiet (arrivals calls fates′)
+    → (given given′ : List Call) → Given (arrivals calls fates) given → Given (arrivals calls fates′) given′
+    → of s (handsOut given) ≡ of s (handsOut given′)
+
+-- The same by what arrives of stream s, whatever else does.
+abbrev pub ByArrivals : List Arrival → List Arrival → ℕ → Type 0
+ByArrivals ys zs s =
+    ownOf s ys ≡ ownOf s zs → Quiet ys → Quiet zs → (given given′ : List Call) → Given ys given → Given zs given′
     → of s (handsOut given) ≡ of s (handsOut given′)
 
 -- ---- the demand
@@ -229,5 +246,6 @@ pub record Demand3 : Type 0 where
   pub in-order : (calls : List Call) (fates : List Fate) → InOrder calls (arrivals calls fates)
   pub always : (calls : List Call) (fates : List Fate) (n : ℕ)
       → ((s : ℕ) → Delivered calls (take n (arrivals calls fates)) s) × InOrder calls (take n (arrivals calls fates))
-  pub independent : (calls : List Call) (fates fates′ : List Fate) (s : ℕ)
-      → Independent (arrivals calls fates) (arrivals calls fates′) s
+  pub independent : (calls : List Call) (fates fates′ : List Fate) (s : ℕ) → Independent calls fates fates′ s
+  pub by-arrivals : (calls : List Call) (fates fates′ : List Fate) (s : ℕ)
+      → ByArrivals (arrivals calls fates) (arrivals calls fates′) s
