@@ -3,8 +3,10 @@ use frames::Kind;
 ghost use mathlib.Core.Path.{_≡_};
 ghost use Prim.Native.Nat.{_≤_};
 ghost use lib.ListN.{length};
+ghost use Rattle.wire.specs.Wire.{part, put};
 ghost use Rattle.paper.specs.Step.{holds, reply};
 ghost use Rattle.frames.specs.Meaning.{meant, Sized};
+ghost use Rattle.state.specs.Layout.{stateBytes, housedAt};
 ghost use Rattle.state.specs.View.{view};
 ghost use Rattle.state.specs.Range.{Fit};
 ghost use Rattle.state.specs.Told.{told, res};
@@ -19,6 +21,16 @@ pub fn start(s: &mut [u8]) -> u8
     }
     state::start(s);
     0
+}
+
+// The 58 bytes of a frame 07 are kept. By way of an array all are read before the first is written, and a few wide moves do it.
+fn house(s: &mut [u8], f: &[u8])
+    requires { ⌜ (stateBytes ≤ length (now s)) × (length (now f) ≡ 59) ⌝ }
+    ensures { λ _. ⌜ now (s .exit) ≡ put (now (s .entry)) housedAt (part (now (f .entry)) 1 58) ⌝ }
+{
+    let mut kept = [0u8; 58];
+    wire::copy_part(&mut kept, 0, f, 1, 58);
+    wire::copy_to(s, 47, &kept);
 }
 
 // The reply to a frame of a kind, with an output that is long enough.
@@ -37,7 +49,7 @@ fn handle(k: Kind, s: &mut [u8], f: &[u8], out: &mut [u8]) -> u8
             0
         }
         Kind::Analogue => {
-            wire::copy_part(s, 47, f, 1, 58);
+            house(s, f);
             0
         }
         Kind::Faulty => 1,

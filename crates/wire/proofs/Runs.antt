@@ -199,6 +199,10 @@ put-id d at k h =
 pub put-whole : (d v : List ℕ) → length v ≡ length d → put d 0 v ≡ v
 put-whole d v e = ap (λ (t : List ℕ). v ++ t) (drop-of-length-le d {i = 0 + length v} (omega arith)) ∙ append-nil v
 
+-- an array that a run filled. Over any list z: an array's bytes written out would be dear to check.
+pub in-place-of : (x z v : List ℕ) → length v ≡ length z → x ≡ put z 0 v → x ≡ v
+in-place-of x z v e p = p ∙ put-whole z v e
+
 -- an index is before a place or not
 below : {P : Type 0} (i at : ℕ) → Dec (i < at) → (i < at → P) → (at ≤ i → P) → P
 below i at (yes h) f g = f h

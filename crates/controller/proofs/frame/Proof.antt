@@ -4,7 +4,7 @@ use Rattle.state.specs.Told.{res}
 use Rattle.paper.specs.Frames.{frameOf}
 use Rattle.machine.proofs.Joins.{short-stays}
 use mathlib.Core.Path.{_≡_, sym, ap, _∙_}
-use mathlib.Core.Bool.{true, false}
+use mathlib.Core.Bool.{true}
 use Prim.Native.Nat.{_≤_}
 use lib.ListN.{length}
 use borrow.Author.Tests.{lt-leb, le-leb, lt-ltb, not-true, not-false}

@@ -1,14 +1,11 @@
 -- `controller::handle` meets its contract.
 -- Assumes nothing.
-use mathlib.Core.Path.{_≡_, refl, sym, ap, _∙_, subst}
-use mathlib.Core.List.{List}
-use Prim.Native.Nat.{ℕ, _≤_}
+use mathlib.Core.Path.{_≡_, refl, _∙_}
 use native.Mathlib.Omega.{arith}
 use lib.ListN.{length, drop, length-drop}
-use Rattle.wire.specs.Wire.{be16, put}
-use Rattle.paper.specs.Frames.{tick, sample, analogue, byte}
+use Rattle.wire.specs.Wire.{be16}
+use Rattle.paper.specs.Frames.{tick, sample, byte}
 use Rattle.paper.specs.Acts.{answer}
-use Rattle.frames.specs.Meaning.{channel, Sized}
 use Rattle.machine.specs.Called.{actedOn, refusedOn}
 use Rattle.machine.proofs.Joins.{quiet, broadcast-joins, command-joins, poll-joins, status-joins, analogue-joins, faulty-joins, housed-bytes}
 use borrow.Author.Needs.{needs}
@@ -57,10 +54,10 @@ status-requires c κs = (c .before .before .before .before .before .before .befo
 enum-told-3 : tie.Need-enum-told-3
 enum-told-3 c = search needs
 
-copy-part-requires : tie.Need-copy-part-requires
-copy-part-requires c κs =
+house-requires : tie.Need-house-requires
+house-requires c κs =
     let long : length (c .before .before .before .before .before .before .args .f .now) ≡ 59 = rw (c .before .enum-told3 .given .1) at (c .before .before .before .before .before .before .pre .1) in
-    (omega (arith, c .before .before .before .before .before .before .pre .0 .whole), omega (arith, long))
+    (c .before .before .before .before .before .before .pre .0 .whole, long)
 
 enum-told-4 : tie.Need-enum-told-4
 enum-told-4 c = search needs
@@ -122,7 +119,7 @@ returns-7 c =
     let f = c .before .before .before .before .before .before .before .before .before .args .f .now in
     let long : length f ≡ 59 = rw (c .before .before .before .before .enum-told3 .given .1) at (c .before .before .before .before .before .before .before .before .before .pre .1) in
     let rest : length (drop 1 f) ≡ 58 = length-drop 1 f ∙ omega (arith, long) in
-    rw (c .before .before .before .before .enum-told3 .given .1, c .before .before .copy-part .ensures, housed-bytes f (omega (arith, rest))) (analogue-joins (c .before .before .before .before .before .before .before .before .before .args .s .now) (c .before .before .before .before .before .before .before .before .before .args .out .now) (c .before .before .before .before .before .before .before .before .before .pre .2) (drop 1 f) rest)
+    rw (c .before .before .before .before .enum-told3 .given .1, c .before .before .house .ensures, housed-bytes f (omega (arith, rest))) (analogue-joins (c .before .before .before .before .before .before .before .before .before .args .s .now) (c .before .before .before .before .before .before .before .before .before .args .out .now) (c .before .before .before .before .before .before .before .before .before .pre .2) (drop 1 f) rest)
 
 returns-8 : tie.Need-returns-8
 returns-8 c = rw (c .enum-told4 .given .1) (faulty-joins (c .before .before .before .before .before .args .s .now) (c .before .before .before .before .before .args .out .now) (c .before .before .before .before .before .pre .2))
@@ -144,7 +141,7 @@ handle-spec =
     enum-known-k-4
     status-requires
     enum-told-3
-    copy-part-requires
+    house-requires
     enum-told-4
     same-length
     returns

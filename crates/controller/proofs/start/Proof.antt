@@ -1,6 +1,5 @@
 -- `controller::start` meets its contract.
 -- Assumes nothing.
-use mathlib.Core.Path.{_≡_, _∙_}
 use borrow.Author.Tests.{lt-leb, le-leb}
 use Rattle.machine.specs.Called.{startOf}
 use borrow.Author.Needs.{needs}

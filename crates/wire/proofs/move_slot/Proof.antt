@@ -4,16 +4,12 @@ use mathlib.Core.Path.{_≡_, _∙_}
 use mathlib.Core.List.{List}
 use Prim.Native.Nat.{ℕ}
 use native.Mathlib.Omega.{arith}
-use lib.ListN.{length, replicate}
-use Rattle.wire.specs.Wire.{part, put}
-use Rattle.wire.proofs.Runs.{put-whole, length-part}
+use lib.ListN.{replicate}
+use Rattle.wire.specs.Wire.{part}
+use Rattle.wire.proofs.Runs.{in-place-of, length-part}
 use borrow.Author.Needs.{needs}
 use Rattle.wire.proofs.move_slot.Statement.{statement}
 use Rattle.wire.proofs.move_slot.Tie as tie
-
--- over any list: with the array's 120 bytes written out it would be dear to check
-in-place-of : (x z v : List ℕ) → length v ≡ length z → x ≡ put z 0 v → x ≡ v
-in-place-of x z v e p = p ∙ put-whole z v e
 
 slice-aggregate-copy-part : tie.Need-slice-aggregate-copy-part
 slice-aggregate-copy-part c = search needs
