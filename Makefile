@@ -14,11 +14,7 @@ PLACE = $(DESTDIR)$(PREFIX)
 .PHONY: all demo test host soak measure install
 
 all:
-	@echo "1 of 2: proving every crate and building the programs"
-	rt check
-	@echo "2 of 2: building the C library"
-	rt staticlib ssp
-	@echo "built: $(LIBRARY) include/ssp.h $(wildcard target/bin/*)"
+	@host/build
 
 demo:
 	@host/demo

@@ -5,3 +5,10 @@ built=target/host
 if [ "$(uname -m)" = x86_64 ]; then runner=; else runner=qemu-x86_64; fi
 
 polled() { sed -n 's/^00\(.\{252\}\)$/\1/p' "$@"; }
+
+# proving WORDS...: runs rt with them, shows a line for each crate as it is done, and where it fails the end of all it printed.
+proving() {
+    mkdir -p target
+    rt "$@" 2>&1 | tee target/proving.log | sed -n 's/^rt: /  /p'
+    [ "${PIPESTATUS[0]}" -eq 0 ] || { tail -n 30 target/proving.log; echo "failed: rt $*"; return 1; }
+}
