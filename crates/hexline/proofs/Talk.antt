@@ -12,7 +12,7 @@ use Rattle.hexline.specs.Lines.{longest, Line, kept, over, more, lineOf,
 use Rattle.hexline.specs.Talk.{Way, Talk, talk, lastly, closed, spokenIn}
 
 -- what holds at both truth values holds at each
-on : (P : Bool → Type 0) (b : Bool) → P true → P false → P b
+pub on : (P : Bool → Type 0) (b : Bool) → P true → P false → P b
 on P true x y = x
 on P false x y = y
 

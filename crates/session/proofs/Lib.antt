@@ -1,5 +1,5 @@
--- Laws of what the programs write; that reader prints what document 01's reader says; and that the cutting of their input does not
--- matter.
+-- Laws of what the programs write; that both print what document 01 says; and that the cutting of their input does not matter.
 pub mod Laws
+pub mod Bench
 pub mod Says
 pub mod Cut
