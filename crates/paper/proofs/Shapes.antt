@@ -25,11 +25,11 @@ second true b e = e
 second false b e = absurd (eqb-false 0 1 refl (ap (λ (c : Bool). cond c 1 0) e))
 
 module _ (P : Frame → Type 0) where
-  either : (c : Bool) (a b : Frame) → (c ≡ true → P a) → P b → P (cond c a b)
+  pub either : (c : Bool) (a b : Frame) → (c ≡ true → P a) → P b → P (cond c a b)
   either true a b p q = p refl
   either false a b p q = q
 
-  sided : (cc : ℕ) (made : Channel → Frame) → ((c : Channel) → P (made c)) → P faulty → P (onChannel cc made)
+  pub sided : (cc : ℕ) (made : Channel → Frame) → ((c : Channel) → P (made c)) → P faulty → P (onChannel cc made)
   unfolding onChannel
   sided cc made h n =
       either (eqb cc 0x0A) (made cdmuA) (cond (eqb cc 0x0B) (made cdmuB) faulty) (λ e. h cdmuA)

@@ -14,10 +14,11 @@ use Rattle.wire.specs.Wire.{put}
 use Rattle.hexline.specs.Hex.{hexOf}
 use Rattle.hexline.specs.Frames.{framesOf, EachOfBytes, answers}
 use Rattle.hexline.proofs.Frames.{spoken-answers, frames-of-bytes}
-use Rattle.paper.specs.Frames.{Channel, cdmuA, cdmuB, Frame, faulty, byte, kind, onChannel, frameOf}
+use Rattle.paper.specs.Frames.{Frame, faulty, byte, kind, frameOf}
 use Rattle.paper.specs.Controller.{Controller, start}
 use Rattle.paper.specs.Step.{wrongShape, Outcome, step}
 use Rattle.paper.specs.Runs.{replies}
+use Rattle.paper.proofs.Shapes.{either, sided}
 use Rattle.paper.proofs.Refusals.{passed, reply-is, silent}
 use Rattle.paper.proofs.Kept.{Kept, kept-start, kept-step, written as writtenFor, writes}
 use Rattle.state.specs.Layout.{stateBytes}
@@ -43,16 +44,6 @@ module _ (f : List ℕ) where
   none : Counts f faulty
   none e = absurd (true≢false e)
 
-  either : (c : Bool) (a b : Frame) → (c ≡ true → Counts f a) → Counts f b → Counts f (cond c a b)
-  either true a b p q = p refl
-  either false a b p q = q
-
-  sided : (cc : ℕ) (made : Channel → Frame) → ((c : Channel) → Counts f (made c)) → Counts f (onChannel cc made)
-  unfolding onChannel
-  sided cc made h =
-      either (eqb cc 0x0A) (made cdmuA) (cond (eqb cc 0x0B) (made cdmuB) faulty) (λ e. h cdmuA)
-      (either (eqb cc 0x0B) (made cdmuB) faulty (λ e. h cdmuB) none)
-
   -- a first byte k, tested with the frame's size
   by : (k : ℕ) (sized : Bool) → (kind f k && sized) ≡ true → written 0 f ≡ cond (eqb k 5) 126 (cond (eqb k 6) 2 0)
   unfolding written
@@ -66,13 +57,13 @@ module _ (f : List ℕ) where
   pub counts : Counts f (frameOf f)
   unfolding frameOf
   counts =
-      either (kind f 1 && eqb (length f) 8) _ _ (λ e. sided (byte f 1) _ (λ c n. by 1 (eqb (length f) 8) e))
-      (either (kind f 2 && leb 6 (length f)) _ _ (λ e. sided (byte f 1) _ (λ c n. by 2 (leb 6 (length f)) e))
-      (either (kind f 3 && eqb (length f) 3) _ _ (λ e n. by 3 (eqb (length f) 3) e)
-      (either (kind f 4 && leb 2 (length f)) _ _ (λ e n. by 4 (leb 2 (length f)) e)
-      (either (kind f 5 && eqb (length f) 2) _ _ (λ e. sided (byte f 1) _ (λ c n. by 5 (eqb (length f) 2) e))
-      (either (kind f 6 && eqb (length f) 4) _ _ (λ e. sided (byte f 1) _ (λ c n. by 6 (eqb (length f) 4) e))
-      (either (kind f 7 && eqb (length f) 59) _ _ (λ e n. by 7 (eqb (length f) 59) e) none))))))
+      either (Counts f) (kind f 1 && eqb (length f) 8) _ _ (λ e. sided (Counts f) (byte f 1) _ (λ c n. by 1 (eqb (length f) 8) e) none)
+      (either (Counts f) (kind f 2 && leb 6 (length f)) _ _ (λ e. sided (Counts f) (byte f 1) _ (λ c n. by 2 (leb 6 (length f)) e) none)
+      (either (Counts f) (kind f 3 && eqb (length f) 3) _ _ (λ e n. by 3 (eqb (length f) 3) e)
+      (either (Counts f) (kind f 4 && leb 2 (length f)) _ _ (λ e n. by 4 (leb 2 (length f)) e)
+      (either (Counts f) (kind f 5 && eqb (length f) 2) _ _ (λ e. sided (Counts f) (byte f 1) _ (λ c n. by 5 (eqb (length f) 2) e) none)
+      (either (Counts f) (kind f 6 && eqb (length f) 4) _ _ (λ e. sided (Counts f) (byte f 1) _ (λ c n. by 6 (eqb (length f) 4) e) none)
+      (either (Counts f) (kind f 7 && eqb (length f) 59) _ _ (λ e n. by 7 (eqb (length f) 59) e) none))))))
 
 -- ---- one frame
 
