@@ -40,7 +40,7 @@ int main(void)
     ssp_reader_start(reader, sizeof reader);
     for (line = 1; fgets(text, sizeof text, stdin) != NULL; line++) {
         size_t n = 0;
-        while (n < sizeof frame && sscanf(text + 2 * n, "%2x", &byte) == 1)
+        while (n < sizeof frame && text[2 * n] && text[2 * n + 1] && sscanf(text + 2 * n, "%2x", &byte) == 1)
             frame[n++] = (uint8_t)byte;
         reply = ssp_frame(state, sizeof state, frame, n, out, sizeof out);
         printf("%3u: ", line);
