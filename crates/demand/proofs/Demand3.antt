@@ -16,11 +16,11 @@ use Rattle.paper.specs.Step.{Outcome, step}
 use Rattle.paper.specs.Reader.{readerStart}
 use Rattle.paper.specs.Runs.{replies, readings}
 use Rattle.paper.specs.History.{isAccepted}
-use Rattle.paper.specs.Demands as paper
-use Rattle.paper.specs.Demands.{isPoll, polled, pollOutputs, Fate, Arrival, of}
+use Rattle.delivery.specs.Demands as paper
+use Rattle.delivery.specs.Demands.{isPoll, polled, pollOutputs, Fate, Arrival, of}
 use Rattle.paper.proofs.Kept.{Kept, kept-start, kept-step, written, writes}
-use Rattle.paper.proofs.Handing.{AtLength, handed-length}
-use Rattle.paper.proofs.Demand3.{demand3}
+use Rattle.delivery.proofs.Handing.{AtLength, handed-length}
+use Rattle.delivery.proofs.Demand3.{demand3}
 use Rattle.state.specs.Layout.{stateBytes}
 use Rattle.state.specs.View.{view}
 use Rattle.state.specs.Range.{Fit}

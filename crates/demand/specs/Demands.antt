@@ -1,5 +1,5 @@
 -- Demand 3 about calls on lent bytes: what the controller's polls write, and what the reader's calls hand out, is what
--- `Rattle.paper.specs.Demands` says, byte for byte, for any buffers that are long enough, any frames and any outputs.
+-- `Rattle.delivery.specs.Demands` says, byte for byte, for any buffers that are long enough, any frames and any outputs.
 --
 -- A call is a frame with the output that is lent with it. `stepOf` and `readOf` are what the entries do to their bytes: their
 -- contracts are equations with them. `startOf` starts both afresh.
@@ -14,7 +14,7 @@ use Rattle.wire.specs.Wire.{be16}
 use Rattle.paper.specs.Frames.{frameOf}
 use Rattle.paper.specs.Streams.{listed}
 use Rattle.paper.specs.History.{isAccepted}
-use Rattle.paper.specs.Demands.{isPoll, polled, Fate, Arrival, arrivals, fatesOf, Quiet, arrived, Gaps, Given, of, arrivedWhole}
+use Rattle.delivery.specs.Demands.{isPoll, polled, Fate, Arrival, arrivals, fatesOf, Quiet, arrived, Gaps, Given, of, arrivedWhole}
 use Rattle.state.specs.Layout.{stateBytes}
 use Rattle.state.specs.Calls.{Framed, calls}
 use Rattle.machine.specs.Called.{startOf}
@@ -73,7 +73,7 @@ Independent xs fates fates′ s =
     → of s (handsOut lent given) ≡ of s (handsOut lent′ given′)
 
 -- The packets on the way are those that the polls among the controller's calls wrote into their outputs, whatever bytes are lent to
--- it; then as in `Rattle.paper.specs.Demands.Demand3`.
+-- it; then as in `Rattle.delivery.specs.Demands.Demand3`.
 pub record Demand3 : Type 0 where
   pub packets : (lent : List ℕ) → stateBytes ≤ length lent → (xs : List (List ℕ × List ℕ)) → Framed xs
       → packetsWritten xs (repliesOf (startOf lent .state) xs) ≡ map (λ p. p .bytes) (polled (calls xs))

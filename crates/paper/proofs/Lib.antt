@@ -1,4 +1,4 @@
--- What document 01 states about its machine, proved on the definitions of specs/; and demand 3, of which Demand3 is the last step.
+-- What document 01 states about its machine, proved on the definitions of specs/. Demand 3 is proved in `delivery`.
 pub mod All
 pub mod Table
 pub mod Shapes
@@ -8,17 +8,4 @@ pub mod Labels
 pub mod Kept
 pub mod History
 pub mod Edges
-pub mod Sizes
-pub mod Whole
-pub mod Sending
-pub mod Arrivals
-pub mod Reading
-pub mod Polled
-pub mod Way
-pub mod Selected
-pub mod Order
-pub mod Delivery
-pub mod Together
-pub mod Demand3
-pub mod Handing
-pub mod Sharp
+pub mod Packets

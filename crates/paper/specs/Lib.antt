@@ -1,7 +1,6 @@
--- What is demanded of runs (Demands); and document 01, the base, as definitions, in its order:
+-- Document 01, the base, as definitions, in its order:
 -- Frames; Clock and Mode; Impact; Commands; Streams, Packets and Queue; the Controller's state; Housekeeping; Status; what each
 -- frame does (Acts); the replies in their order, and one call (Step); the Reader; runs and their history; the examples marked P.
-pub mod Demands
 pub mod Frames
 pub mod Clock
 pub mod Mode

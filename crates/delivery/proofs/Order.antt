@@ -12,16 +12,16 @@ use native.Mathlib.Omega.{arith}
 use lib.Dec.{eqb}
 use lib.ListN.{length, length-append, getD, drop}
 use borrow.Author.Tests.{eqb-true, eqb-false, eq-eqb, ltb-true}
 use Rattle.paper.specs.Streams.{pieces}
 use Rattle.paper.specs.Packets.{cut}
 use Rattle.paper.specs.Queue.{Piece, piece, numbered, after, put}
 use Rattle.paper.specs.History.{numberedAll}
-use Rattle.paper.specs.Demands.{Polled, Fate, lost, came, again, noise, Arrival, own, strange, repeats, arrivalsFrom, ownOf, arrived, allAmong, complete}
+use Rattle.delivery.specs.Demands.{Polled, Fate, lost, came, again, noise, Arrival, own, strange, repeats, arrivalsFrom, ownOf, arrived, allAmong, complete}
 use Rattle.paper.proofs.History.{length-cut}
-use Rattle.paper.proofs.Sending.{Wholes}
-use Rattle.paper.proofs.Arrivals.{In}
-use Rattle.paper.proofs.Polled.{map-append, Sub, sub-skip, after-suc}
-use Rattle.paper.proofs.Selected.{all-in, in-all}
+use Rattle.delivery.proofs.Sending.{Wholes}
+use Rattle.delivery.proofs.Arrivals.{In}
+use Rattle.delivery.proofs.Polled.{map-append, Sub, sub-skip, after-suc}
+use Rattle.delivery.proofs.Selected.{all-in, in-all}
 
 -- ---- the numbers that arrived, with one arrival more
 

@@ -11,16 +11,16 @@ use native.Mathlib.Omega.{arith}
 use lib.Dec.{eqb, lit≤}
 use lib.ListN.{length, getD, take}
 use borrow.Author.Tests.{eqb-true, eqb-false, eq-eqb}
 use Rattle.paper.specs.Streams.{listed}
 use Rattle.paper.specs.Packets.{joined}
 use Rattle.paper.specs.Queue.{put}
 use Rattle.paper.specs.Reader as reader
 use Rattle.paper.specs.Reader.{Packet, packet, notCarried, noPacket, packetOf, sound, Reader, heard, received, understood, readerStart}
 use Rattle.paper.specs.Runs.{Call}
-use Rattle.paper.specs.Demands.{Polled, Fate, lost, came, again, noise, Arrival, own, strange, repeats, arrivalsFrom, fatesOf, NoPacket, Quiet, ownOf, Gaps, Given}
-use Rattle.paper.proofs.Arrivals.{In, Arrives, piece}
-use Rattle.paper.proofs.Reading.{mine, packetsOf, Roomy, has-room}
-use Rattle.paper.proofs.Polled.{only, polledIn, Fine, fine-lower, Genuine, Genuines}
+use Rattle.delivery.specs.Demands.{Polled, Fate, lost, came, again, noise, Arrival, own, strange, repeats, arrivalsFrom, fatesOf, NoPacket, Quiet, ownOf, Gaps, Given}
+use Rattle.delivery.proofs.Arrivals.{In, Arrives, piece}
+use Rattle.delivery.proofs.Reading.{mine, packetsOf, Roomy, has-room}
+use Rattle.delivery.proofs.Polled.{only, polledIn, Fine, fine-lower, Genuine, Genuines}
 
 -- ---- what is known of arrivals
 

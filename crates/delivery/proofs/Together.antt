@@ -12,16 +12,16 @@ use lib.ListN.{length, getD, take, drop, take-append-drop}
 use lib.Seq.{take-at}
 use borrow.Author.Tests.{eqb-true, eqb-false, eq-eqb, ne-eqb}
 use Rattle.wire.specs.Wire.{be16}
 use Rattle.paper.specs.Controller.{start}
 use Rattle.paper.specs.Reader.{Reader, Heard, readerStart, readerStep}
 use Rattle.paper.specs.Runs.{Call, reads, readings}
 use Rattle.paper.specs.History.{sentBy}
-use Rattle.paper.specs.Demands.{polled, Fate, Arrival, own, strange, frame, arrivals, Quiet, arrived, Gaps, Given, handedOut, handsOut, of, arrivedWhole, InOrder}
-use Rattle.paper.proofs.Sending.{sent-whole}
-use Rattle.paper.proofs.Polled.{polled-sub}
-use Rattle.paper.proofs.Way.{prefix}
-use Rattle.paper.proofs.Order.{arrived-append, Stands, advance, stands, none-complete}
-use Rattle.paper.proofs.Delivery.{always}
+use Rattle.delivery.specs.Demands.{polled, Fate, Arrival, own, strange, frame, arrivals, Quiet, arrived, Gaps, Given, handedOut, handsOut, of, arrivedWhole, InOrder}
+use Rattle.delivery.proofs.Sending.{sent-whole}
+use Rattle.delivery.proofs.Polled.{polled-sub}
+use Rattle.delivery.proofs.Way.{prefix}
+use Rattle.delivery.proofs.Order.{arrived-append, Stands, advance, stands, none-complete}
+use Rattle.delivery.proofs.Delivery.{always}
 
 -- calls one after the other
 handed-append : (xs ys : List Call) (r : Reader)

@@ -10,13 +10,13 @@ use lib.Dec.{eqb}
 use lib.ListN.{take, drop}
 use borrow.Author.Tests.{eqb-true, eq-eqb, le-ltb}
 use Rattle.wire.specs.Wire.{be16}
 use Rattle.paper.specs.Streams.{pieces, listed, carried}
 use Rattle.paper.specs.Packets.{joined}
 use Rattle.paper.specs.Queue.{put}
 use Rattle.paper.specs.Reader.{Arrival, repeated, taken, finished, arrive, Packet, packet, notCarried, noPacket, wellFormed, packetOf, sound, Reader, Heard, heard, received, understood, readerStep}
 use Rattle.paper.specs.Runs.{Call, readings}
-use Rattle.paper.specs.Demands.{handedOut, of}
-use Rattle.paper.proofs.Arrivals.{run}
+use Rattle.delivery.specs.Demands.{handedOut, of}
+use Rattle.delivery.proofs.Arrivals.{run}
 
 -- ---- what is kept of one stream
 

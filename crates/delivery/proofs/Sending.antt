@@ -12,35 +12,30 @@ use lib.ListN.{length, getD, length-append, length-map}
 use lib.Seq.{getD-append-add}
 use borrow.Author.Tests.{eqb-true, not-false}
 use Rattle.wire.specs.Wire.{be16}
 use Rattle.paper.specs.Frames.{Channel, Frame, broadcast, command, tick, sample, poll, status, analogue, faulty, frameOf}
 use Rattle.paper.specs.Impact.{Impact, Stamp}
 use Rattle.paper.specs.Commands.{clear, housekeeping, setMode, Decoded, request, refusal, names, decoded}
 use Rattle.paper.specs.Streams.{rowOf, acc-i, den, hk, pieces, listed, perPacket, width, carried}
 use Rattle.paper.specs.Streams as table
 use Rattle.paper.specs.Packets.{pack, joined, dataOf, opening, closing, header, datastream, cut}
 use Rattle.paper.specs.Queue.{Piece, wrap, numbered, after, put}
 use Rattle.paper.specs.Controller.{Controller, start, stampNow}
 use Rattle.paper.specs.Housekeeping.{housekeepingData, housekeepingPacket}
 use Rattle.paper.specs.Acts.{completes, taken, impactPacket, joinedBy, closes, noted, shownFrom, answer}
 use Rattle.paper.specs.Step.{holds, queues, reply, replied, step}
 use Rattle.paper.specs.Reader.{packet, packetOf}
 use Rattle.paper.specs.Runs.{Call, runs}
 use Rattle.paper.specs.History.{isAccepted, fullPacket, onlyIf, sent, sentAt, sentBy, countsAfter, numberedAll, spares, stillWaiting, sparedAt, stillWaitingAt}
+use Rattle.paper.proofs.Packets.{length-pack}
 use Rattle.paper.proofs.All.{All, all-append, all-drop, all-without}
 use Rattle.paper.proofs.Table.{row-stream, rule, sampled-carried}
 use Rattle.paper.proofs.Refusals.{Passed, passed, reply-is}
 use Rattle.paper.proofs.History.{queues-step}
 use Rattle.paper.proofs.Kept.{Full, full-cut}
-use Rattle.paper.proofs.Whole.{Whole, Ready, polled-parse}
-use Rattle.paper.proofs.Sizes.{Each, Sizes, taken-ring, sizes-start, sizes-step}
+use Rattle.delivery.proofs.Whole.{Whole, Ready, polled-parse}
+use Rattle.delivery.proofs.Sizes.{Each, Sizes, taken-ring, sizes-start, sizes-step}
 
 -- ---- sizes of what packets are made of
-
--- three bytes for a pair
-pub length-pack : (n : ℕ) (xs : List ℕ) → length xs ≡ 2 * n → length (pack xs) ≡ 3 * n
-length-pack n [] h = omega arith
-length-pack n (u ∷ []) h = omega arith
-length-pack n (u ∷ v ∷ xs) h = omega (arith, length-pack (n - 1) xs (omega arith))
 
 length-joined : (w : ℕ) (xs : List (List ℕ)) → Each w xs → length (joined xs) ≡ length xs * w
 length-joined w [] e = sym (zero-mul w)

@@ -1,9 +1,9 @@
 -- Demand 3 holds.
 -- Assumes nothing.
-use Rattle.paper.specs.Demands.{Demand3}
-use Rattle.paper.proofs.Polled.{polled-numbered, polled-outputs}
-use Rattle.paper.proofs.Delivery.{delivers, always, independent, by-arrivals}
-use Rattle.paper.proofs.Together.{in-order, in-order-always}
+use Rattle.delivery.specs.Demands.{Demand3}
+use Rattle.delivery.proofs.Polled.{polled-numbered, polled-outputs}
+use Rattle.delivery.proofs.Delivery.{delivers, always, independent, by-arrivals}
+use Rattle.delivery.proofs.Together.{in-order, in-order-always}
 
 pub demand3 : Demand3
 demand3 =

@@ -13,22 +13,22 @@ use lib.Dec.{eqb}
 use lib.ListN.{length, getD, take, length-append, length-map}
 use lib.Seq.{getD-append-seam, append-snoc}
 use borrow.Author.Tests.{eqb-true, ltb-true}
 use Rattle.paper.specs.Streams.{pieces, listed, carried}
 use Rattle.paper.specs.Packets.{joined, cut}
 use Rattle.paper.specs.Queue.{put}
 use Rattle.paper.specs.Controller.{start}
 use Rattle.paper.specs.Reader.{fresh, readerStart, sound}
 use Rattle.paper.specs.Runs.{Call}
 use Rattle.paper.specs.History.{sentBy}
-use Rattle.paper.specs.Demands.{Polled, polled, piecesQueued, Fate, Arrival, arrivalsFrom, arrivals, fatesOf, Quiet, ownOf, arrived, Gaps, Given, of, handsOut, allAmong, complete, Delivered, Independent, ByArrivals}
+use Rattle.delivery.specs.Demands.{Polled, polled, piecesQueued, Fate, Arrival, arrivalsFrom, arrivals, fatesOf, Quiet, ownOf, arrived, Gaps, Given, of, handsOut, allAmong, complete, Delivered, Independent, ByArrivals}
 use Rattle.paper.proofs.History.{length-cut}
-use Rattle.paper.proofs.Whole.{Whole, whole-sound, whole-back}
-use Rattle.paper.proofs.Arrivals.{run, piece, bodies, packet, In, Finishes, reads}
-use Rattle.paper.proofs.Reading.{trimmed, reads-one}
-use Rattle.paper.proofs.Sending.{Wholes, sent-whole}
-use Rattle.paper.proofs.Polled.{polledIn, polled-fine}
-use Rattle.paper.proofs.Way.{Told, AllGenuine, prefix, arrivals-told, told-arrives, told-in, found, given-found, given-roomy, told-pieces, by-fates}
-use Rattle.paper.proofs.Selected.{completeOf, selected}
+use Rattle.delivery.proofs.Whole.{Whole, whole-sound, whole-back}
+use Rattle.delivery.proofs.Arrivals.{run, piece, bodies, packet, In, Finishes, reads}
+use Rattle.delivery.proofs.Reading.{trimmed, reads-one}
+use Rattle.delivery.proofs.Sending.{Wholes, sent-whole}
+use Rattle.delivery.proofs.Polled.{polledIn, polled-fine}
+use Rattle.delivery.proofs.Way.{Told, AllGenuine, prefix, arrivals-told, told-arrives, told-in, found, given-found, given-roomy, told-pieces, by-fates}
+use Rattle.delivery.proofs.Selected.{completeOf, selected}
 
 -- ---- packet q of a stream is the q-th that was queued
 

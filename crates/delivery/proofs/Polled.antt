@@ -11,23 +11,23 @@ use lib.Dec.{eqb, lit≤}
 use lib.ListN.{length, getD, take, drop, length-append, List·getD-append}
 use lib.Seq.{getD-append-seam, append-snoc}
 use borrow.Author.Tests.{eqb-true, eqb-false, eq-eqb}
 use Rattle.paper.specs.Frames.{Channel, cdmuA, cdmuB, Frame, broadcast, command, tick, sample, poll, status, analogue, faulty, frameOf}
 use Rattle.paper.specs.Commands.{clear, housekeeping, setMode, Decoded, request, refusal, names, decoded}
 use Rattle.paper.specs.Streams.{pieces}
 use Rattle.paper.specs.Packets.{cut}
 use Rattle.paper.specs.Queue.{Piece, piece, wrap, numbered, after, put, without}
 use Rattle.paper.specs.Controller.{Controller, start}
 use Rattle.paper.specs.Acts.{accepted, answer, shownFrom}
 use Rattle.paper.specs.Step.{holds, reply, nothingWaits, refused, Outcome, outcome, replied, step}
 use Rattle.paper.specs.Reader.{packet, packetOf}
 use Rattle.paper.specs.Runs.{Call, replies}
 use Rattle.paper.specs.History.{isAccepted, sentAt, sentBy, countsAfter, numberedAll, spares, stillWaiting, sparedAt, stillWaitingAt}
-use Rattle.paper.specs.Demands.{Polled, Numbers, isPoll, piecesQueued, none-queued, numbersAfter, takenAt, written, polledFrom, polled, pollOutputs, Numbered}
+use Rattle.delivery.specs.Demands.{Polled, Numbers, isPoll, piecesQueued, none-queued, numbersAfter, takenAt, written, polledFrom, polled, pollOutputs, Numbered}
 use Rattle.paper.proofs.Refusals.{reply-is, passed}
 use Rattle.paper.proofs.History.{queues-step}
-use Rattle.paper.proofs.Whole.{polled-parse}
-use Rattle.paper.proofs.Sizes.{Sizes, sizes-start, sizes-step}
-use Rattle.paper.proofs.Sending.{Readies, Waits, waits-start, waits-step}
+use Rattle.delivery.proofs.Whole.{polled-parse}
+use Rattle.delivery.proofs.Sizes.{Sizes, sizes-start, sizes-step}
+use Rattle.delivery.proofs.Sending.{Readies, Waits, waits-start, waits-step}
 
 -- ---- counts are numbers modulo 4096
 

@@ -12,16 +12,17 @@ use lib.ListN.{length, getD, take, drop, replicate, length-append, length-replic
 use lib.Seq.{take-all, take-add, take-at, drop-at}
 use borrow.Author.Tests.{eq-eqb}
 use Rattle.wire.specs.Wire.{be16}
 use Rattle.paper.specs.Frames.{Channel, cdmuA, cdmuB}
 use Rattle.paper.specs.Streams.{pieces, listed, carried}
 use Rattle.paper.specs.Packets.{joined, chunks, cut}
 use Rattle.paper.specs.Queue.{Piece}
 use Rattle.paper.specs.Controller.{Both}
 use Rattle.paper.specs.Acts.{packetId, shown}
 use Rattle.paper.specs.Reader.{packet, wellFormed, packetOf, all99, sound}
+use Rattle.paper.proofs.Packets.{joined-chunks}
 use Rattle.paper.proofs.Table.{carried-small, carried-rules}
 use Rattle.paper.proofs.Kept.{Full, full-cut}
 use Rattle.paper.proofs.History.{length-cut}
 
 -- "A datastream packet opens with the two bytes 88 88 and closes with 99 99", at its stream's listed length.
 abbrev pub Whole : ℕ → List ℕ → Type 0
@@ -30,13 +31,6 @@ Whole s x =
     × (getD x (listed s - 2) 0 ≡ 0x99) × (getD x (listed s - 1) 0 ≡ 0x99)
 
 -- ---- cut and put together
-
--- runs of w bytes, side by side
-pub joined-chunks : (w n : ℕ) (l : List ℕ) → joined (chunks w n l) ≡ take (n * w) l
-joined-chunks w zero l = rw (zero-mul w)
-joined-chunks w (suc n) l =
-    let e : suc n * w ≡ w + n * w = rw (suc-mul n w) (add-comm (n * w) w) in
-    rw e (ap (λ (t : List ℕ). take w l ++ t) (joined-chunks w n (drop w l)) ∙ sym (take-add w (n * w) l))
 
 all-99 : (n : ℕ) → all99 (replicate n 0x99) ≡ true
 all-99 zero = refl

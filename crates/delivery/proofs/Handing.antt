@@ -13,16 +13,16 @@ use lib.ListN.{length, take, drop, length-append, length-drop}
 use lib.Seq.{length-take-le}
 use borrow.Author.Tests.{eqb-true, eqb-false, ltb-true}
 use Rattle.wire.specs.Wire.{be16}
 use Rattle.paper.specs.Streams.{pieces, listed, carried}
 use Rattle.paper.specs.Packets.{joined}
 use Rattle.paper.specs.Queue.{put}
 use Rattle.paper.specs.Reader.{Track, distance, placed, Arrival, repeated, taken, finished, gathers, moves, arrives, arrive, Packet, packet, notCarried, noPacket, wellFormed, packetOf, sound, Reader, readerStart, Heard, heard, received, understood, readerStep}
 use Rattle.paper.specs.Runs.{Call, readings}
-use Rattle.paper.specs.Demands.{handedOut}
+use Rattle.delivery.specs.Demands.{handedOut}
 use Rattle.paper.proofs.All.{All}
 use Rattle.paper.proofs.Kept.{Full}
 use Rattle.paper.proofs.Table.{carried-rules}
-use Rattle.paper.proofs.Reading.{stream-of}
+use Rattle.delivery.proofs.Reading.{stream-of}
 
 full-snoc : (g : List (List ℕ)) (x : List ℕ) → Full g → length x ≡ 118 → Full (g ++ (x ∷ []))
 full-snoc [] x f e = (e, tt)

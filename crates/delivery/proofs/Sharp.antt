@@ -9,19 +9,19 @@ use mathlib.Core.List.{List, [], _∷_, _++_, map}
 use Prim.Native.Nat.{ℕ, zero, suc}
 use lib.Dec.{eqb, lit≤}
 use lib.ListN.{replicate}
 use Rattle.paper.specs.Frames.{onChannel, frameOf}
 use Rattle.paper.specs.Mode.{number, modeOf, nibble, entered}
 use Rattle.paper.specs.Commands.{outside, names, decoded}
 use Rattle.paper.specs.Streams.{rowOf, takenIn}
 use Rattle.paper.specs.Packets.{dataOf, datastream, cut}
 use Rattle.paper.specs.Queue.{wrap, numbered, after, put, without}
 use Rattle.paper.specs.Controller.{raised, Open, nothingOpen, Controller, start, queued}
 use Rattle.paper.specs.Acts.{emptied, enter, joinedBy, closed, sampled, noted, cleared, commanded, obeyed, shown, polled as polls, performed, polledFrom as pollsFrom, shownFrom, accepted, answer}
 use Rattle.paper.specs.Step.{reply, refused, replied, step}
 use Rattle.paper.specs.Reader.{arrive, wellFormed, packetOf, sound, readerStart, received, understood, readerStep}
 use Rattle.paper.specs.Runs.{Call, call, runs, readings}
 use Rattle.paper.specs.History.{fullPacket, sent, sentAt, sentBy, countsAfter, numberedAll, sparedAt}
-use Rattle.paper.specs.Demands.{Numbers, numbersAfter, takenAt, polledFrom, polled, Fate, came, Arrival, frame, arrivalsFrom, arrivals, Quiet, ownOf, arrived, Given, handedOut, of, handsOut, complete, arrivedWhole}
+use Rattle.delivery.specs.Demands.{Numbers, numbersAfter, takenAt, polledFrom, polled, Fate, came, Arrival, frame, arrivalsFrom, arrivals, Quiet, ownOf, arrived, Given, handedOut, of, handsOut, complete, arrivedWhole}
 
 abbrev pub to5 : Call
 to5 = call (0x02 ∷ 0x0A ∷ 0x00 ∷ 0x32 ∷ 0x00 ∷ 0x01 ∷ 0x00 ∷ 0x05 ∷ []) 126

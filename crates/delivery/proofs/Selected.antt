@@ -12,8 +12,8 @@ use lib.Dec.{eqb}
 use lib.ListN.{length, getD, length-append}
 use lib.Seq.{getD-append-seam, append-snoc}
 use borrow.Author.Tests.{eqb-true, eq-eqb}
-use Rattle.paper.specs.Demands.{among, allAmong}
-use Rattle.paper.proofs.Arrivals.{In, Increasing}
+use Rattle.delivery.specs.Demands.{among, allAmong}
+use Rattle.delivery.proofs.Arrivals.{In, Increasing}
 
 -- ---- an increasing list is known by its members
 

@@ -1,0 +1,15 @@
+-- Demand 3 holds; Demand3 is the last step. Handing says how long a handed-out packet is, and Sharp that 4,094 is the most.
+pub mod Sizes
+pub mod Whole
+pub mod Sending
+pub mod Arrivals
+pub mod Reading
+pub mod Polled
+pub mod Way
+pub mod Selected
+pub mod Order
+pub mod Delivery
+pub mod Together
+pub mod Demand3
+pub mod Handing
+pub mod Sharp

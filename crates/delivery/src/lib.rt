@@ -1,0 +1,1 @@
+// Demand 3 on the definitions of `paper`, in specs/, and its proof, in proofs/. No code.
