@@ -10,7 +10,7 @@ use native.Mathlib.Nat.{mul-le-mul-right}
 use native.Mathlib.Omega.{arith}
 use native.Mathlib.Decide.{decLe}
 use lib.Dec.{eqb}
-use lib.ListN.{length, getD, take, length-append, length-map}
+use lib.ListN.{length, getD, take, drop, length-append, length-map, take-append-drop}
 use lib.Seq.{getD-append-seam, append-snoc}
 use borrow.Author.Tests.{eqb-true, ltb-true}
 use Rattle.paper.specs.Streams.{pieces, listed, carried}
@@ -20,14 +20,15 @@ use Rattle.paper.specs.Controller.{start}
 use Rattle.paper.specs.Reader.{fresh, readerStart, sound}
 use Rattle.paper.specs.Runs.{Call}
 use Rattle.paper.specs.History.{sentBy}
-use Rattle.delivery.specs.Demands.{Polled, polled, piecesQueued, Fate, Arrival, arrivalsFrom, arrivals, fatesOf, Quiet, ownOf, arrived, Gaps, Given, of, handsOut, allAmong, complete, Delivered, Independent, ByArrivals}
+use Rattle.delivery.specs.Demands.{Polled, polled, piecesQueued, polledOf, Arrival, ownOf, arrived, NoOthers, Gaps, Comes, Given, of, handsOut, allAmong, complete, Delivered, ByArrivals, Fate, arrivalsFrom, arrivals, Quiet, ByFates, fatesOf, Independent}
 use Rattle.paper.proofs.History.{length-cut}
 use Rattle.delivery.proofs.Whole.{Whole, whole-sound, whole-back}
 use Rattle.delivery.proofs.Arrivals.{run, piece, bodies, packet, In, Finishes, reads}
 use Rattle.delivery.proofs.Reading.{trimmed, reads-one}
 use Rattle.delivery.proofs.Sending.{Wholes, sent-whole}
-use Rattle.delivery.proofs.Polled.{polledIn, polled-fine}
-use Rattle.delivery.proofs.Way.{Told, AllGenuine, prefix, arrivals-told, told-arrives, told-in, found, given-found, given-roomy, told-pieces, by-fates}
+use Rattle.delivery.proofs.Polled.{polled-fine}
+use Rattle.delivery.proofs.Way.{prefix, chosen-front, arrivals-chosen, Told, told, told-arrives, told-in, fates-others, others-front, found, given-found, given-roomy, told-pieces, same-fates}
+use Rattle.delivery.proofs.Order.{own-append, arrived-append}
 use Rattle.delivery.proofs.Selected.{completeOf, selected}
 
 -- ---- packet q of a stream is the q-th that was queued
@@ -128,13 +129,13 @@ trimmed-all s f g (q ∷ qs) h =
 
 module _ (s : ℕ) (ps : List (ℕ × List ℕ)) (w : Wholes ps) where
   -- a stream that is carried
-  carries : 0 < pieces s → (ys : List Arrival) → Told s (piecesQueued s ps) 0 (ownOf s ys) → AllGenuine ys → Quiet ys
+  carries : 0 < pieces s → (ys : List Arrival) → Told s (piecesQueued s ps) 0 (ownOf s ys) → NoOthers s ys
       → Gaps 0 (arrived s ys) → (given : List Call) → Given ys given
       → of s (handsOut given) ≡ completeOf (pieces s) 0 (arrived s ys) (of s ps)
   unfolding readerStart
-  carries kp ys t a quiet gaps given g =
+  carries kp ys t a gaps given g =
       reads-one s given (given-roomy ys given g) readerStart
-      ∙ ap (λ l. trimmed s (run (pieces s) (fresh (pieces s)) l)) (given-found s ys given g quiet a ∙ told-pieces s (piecesQueued s ps) (ownOf s ys) 0 t)
+      ∙ ap (λ l. trimmed s (run (pieces s) (fresh (pieces s)) l)) (given-found s ys given g a ∙ told-pieces s (piecesQueued s ps) (ownOf s ys) 0 t)
       ∙ ap (trimmed s) (r .3)
       ∙ trimmed-all s (packet (pieces s) b) (λ q. getD (of s ps) q []) (r .0) whole
       ∙ selected (pieces s) (arrived s ys) (of s ps) (r .0) (r .1) (r .2) lt
@@ -181,24 +182,24 @@ module _ (s : ℕ) (ps : List (ℕ × List ℕ)) (w : Wholes ps) where
   no-arrivals [] e t = refl
   no-arrivals (q ∷ qs) e t = absurd (omega (arith, t .1))
 
-  not-carried : carried s ≡ false → (ys : List Arrival) → Told s (piecesQueued s ps) 0 (ownOf s ys) → AllGenuine ys → Quiet ys
+  not-carried : carried s ≡ false → (ys : List Arrival) → Told s (piecesQueued s ps) 0 (ownOf s ys) → NoOthers s ys
       → (given : List Call) → Given ys given → of s (handsOut given) ≡ completeOf (pieces s) 0 (arrived s ys) (of s ps)
   unfolding completeOf found run trimmed
-  not-carried f ys t a quiet given g =
+  not-carried f ys t a given g =
       let none : of s ps ≡ [] = no-packets f (of s ps) (whole-of s ps w) in
       let nil : piecesQueued s ps ≡ [] = bodies-flat s ps ∙ ap (λ l. flat (map (cut (pieces s)) l)) none in
       reads-one s given (given-roomy ys given g) readerStart
       ∙ ap (λ l. trimmed s (run (pieces s) (readerStart s) l))
-      (given-found s ys given g quiet a ∙ ap (found s) (no-arrivals (ownOf s ys) (ap length nil) t))
+      (given-found s ys given g a ∙ ap (found s) (no-arrivals (ownOf s ys) (ap length nil) t))
       ∙ sym (ap (completeOf (pieces s) 0 (arrived s ys)) none)
 
-  delivered : (ys : List Arrival) → Told s (piecesQueued s ps) 0 (ownOf s ys) → AllGenuine ys → Quiet ys → Gaps 0 (arrived s ys)
+  delivered : (ys : List Arrival) → Told s (piecesQueued s ps) 0 (ownOf s ys) → NoOthers s ys → Gaps 0 (arrived s ys)
       → (given : List Call) → Given ys given → of s (handsOut given) ≡ completeOf (pieces s) 0 (arrived s ys) (of s ps)
-  delivered ys t a quiet gaps given g = by (carried s) refl
+  delivered ys t a gaps given g = by (carried s) refl
     where
       by : (b : Bool) → carried s ≡ b → of s (handsOut given) ≡ completeOf (pieces s) 0 (arrived s ys) (of s ps)
-      by true e = carries (ltb-true 0 (pieces s) e) ys t a quiet gaps given g
-      by false e = not-carried e ys t a quiet given g
+      by true e = carries (ltb-true 0 (pieces s) e) ys t a gaps given g
+      by false e = not-carried e ys t a given g
 
 -- ---- of one stream, those of all that arrived whole
 
@@ -243,47 +244,78 @@ of-complete s ys (p ∷ ps) before = by (eqb (p .0) s) refl (of-complete s ys ps
 
 -- ---- a stream of a run
 
-module _ (calls : List Call) (fates : List Fate) (s : ℕ) where
-  told : Told s (piecesQueued s (sentBy start calls)) 0 (ownOf s (arrivals calls fates)) × AllGenuine (arrivals calls fates)
-  unfolding arrivals
-  told =
-      let f = polled-fine calls s in
-      arrivals-told s (piecesQueued s (sentBy start calls)) fates (polled calls) (f .0) (f .1)
+pub delivers : (calls : List Call) (ys : List Arrival) (s : ℕ) → Delivered calls ys s
+delivers calls ys s c given g =
+    delivered s (sentBy start calls) (sent-whole calls) ys
+    (told s (piecesQueued s (sentBy start calls)) (polledOf s (polled calls)) (ownOf s ys) (polled-fine calls s .0) (c .chosen))
+    (c .no-others) (c .gaps) given g
+    ∙ sym (of-complete s ys (sentBy start calls) (λ t. 0))
 
-  pub delivers : Delivered calls (arrivals calls fates) s
-  delivers quiet gaps given g =
-      delivered s (sentBy start calls) (sent-whole calls) (arrivals calls fates) (told .0) (told .1) quiet gaps given g
-      ∙ sym (of-complete s (arrivals calls fates) (sentBy start calls) (λ t. 0))
+-- a beginning of such arrivals is such arrivals
+gaps-front : (e : ℕ) (ms ks : List ℕ) → Gaps e (ms ++ ks) → Gaps e ms
+gaps-front e [] ks g = tt
+gaps-front e (m ∷ ms) ks g = (g .0, gaps-front (suc m) ms ks (g .1))
 
--- at every moment on the way
-module _ (calls : List Call) (fates : List Fate) (s : ℕ) where
-  pub always : (n : ℕ) → Delivered calls (take n (arrivals calls fates)) s
-  unfolding arrivals
-  always n =
-      let r = prefix fates n (λ t. none) (polled calls) in
-      subst (λ (l : List Arrival). Delivered calls l s) (sym (r .1)) (delivers calls (r .0) s)
+pub comes-front : (calls : List Call) (ys zs : List Arrival) (s : ℕ) → Comes calls (ys ++ zs) s → Comes calls ys s
+comes-front calls ys zs s c =
+    record {
+      chosen = chosen-front (polledOf s (polled calls)) (ownOf s ys) (ownOf s zs) (rw (own-append s ys zs) at (c .chosen));
+      no-others = others-front s ys zs (c .no-others);
+      gaps = gaps-front 0 (arrived s ys) (arrived s zs) (rw (arrived-append s ys zs) at (c .gaps));
+    }
+
+pub begins : (calls : List Call) (ys : List Arrival) (s n : ℕ) → Comes calls ys s → Comes calls (take n ys) s
+begins calls ys s n c =
+    comes-front calls (take n ys) (drop n ys) s (subst (λ (l : List Arrival). Comes calls l s) (sym (take-append-drop n ys)) c)
 
 -- ---- the other streams do not count
 
-pub by-arrivals : (calls : List Call) (fates fates′ : List Fate) (s : ℕ) → ByArrivals (arrivals calls fates) (arrivals calls fates′) s
-by-arrivals calls fates fates′ s e q q′ given given′ g g′ =
-    out fates given g q
-    ∙ ap (λ l. trimmed s (run (pieces s) (readerStart s) (found s l))) e
-    ∙ sym (out fates′ given′ g′ q′)
+pub by-arrivals : (ys zs : List Arrival) (s : ℕ) → ByArrivals ys zs s
+by-arrivals ys zs s e n n′ given given′ g g′ =
+    out ys given g n ∙ ap (λ l. trimmed s (run (pieces s) (readerStart s) (found s l))) e ∙ sym (out zs given′ g′ n′)
   where
-    out : (fs : List Fate) (xs : List Call) → Given (arrivals calls fs) xs → Quiet (arrivals calls fs)
-        → of s (handsOut xs) ≡ trimmed s (run (pieces s) (readerStart s) (found s (ownOf s (arrivals calls fs))))
-    out fs xs h k =
-        reads-one s xs (given-roomy (arrivals calls fs) xs h) readerStart
-        ∙ ap (λ l. trimmed s (run (pieces s) (readerStart s) l)) (given-found s (arrivals calls fs) xs h k (told calls fs s .1))
+    out : (ys : List Arrival) (xs : List Call) → Given ys xs → NoOthers s ys
+        → of s (handsOut xs) ≡ trimmed s (run (pieces s) (readerStart s) (found s (ownOf s ys)))
+    out ys xs h k =
+        reads-one s xs (given-roomy ys xs h) readerStart
+        ∙ ap (λ l. trimmed s (run (pieces s) (readerStart s) l)) (given-found s ys xs h k)
+
+-- ---- by fates
+
+others : (calls : List Call) (fates : List Fate) (s : ℕ) → Quiet (arrivals calls fates) → NoOthers s (arrivals calls fates)
+unfolding arrivals
+others calls fates s q =
+    fates-others s (arrivals calls fates) (arrivals-chosen s fates (polled calls) (polled-fine calls s .1) .1) q
+
+pub fates-come : (calls : List Call) (fates : List Fate) (s : ℕ) → Quiet (arrivals calls fates)
+    → Gaps 0 (arrived s (arrivals calls fates)) → Comes calls (arrivals calls fates) s
+unfolding arrivals
+fates-come calls fates s q g =
+    record {
+      chosen = arrivals-chosen s fates (polled calls) (polled-fine calls s .1) .0;
+      no-others = others calls fates s q;
+      gaps = g;
+    }
+
+pub by-fates : (calls : List Call) (fates : List Fate) (s : ℕ) → ByFates calls (arrivals calls fates) s
+by-fates calls fates s quiet gaps = delivers calls (arrivals calls fates) s (fates-come calls fates s quiet gaps)
+
+-- at every moment on the way
+pub always : (calls : List Call) (fates : List Fate) (s n : ℕ) → ByFates calls (take n (arrivals calls fates)) s
+unfolding arrivals
+always calls fates s n =
+    let r = prefix fates n (λ t. none) (polled calls) in
+    subst (λ (l : List Arrival). ByFates calls l s) (sym (r .1)) (by-fates calls (r .0) s)
 
 pub independent : (calls : List Call) (fates fates′ : List Fate) (s : ℕ) → Independent calls fates fates′ s
 unfolding arrivals
-independent calls fates fates′ s e = by-arrivals calls fates fates′ s (own fates ∙ ap arrive e ∙ sym (own fates′))
+independent calls fates fates′ s e q q′ =
+    by-arrivals (arrivals calls fates) (arrivals calls fates′) s (same fates ∙ ap arrive e ∙ sym (same fates′))
+    (others calls fates s q) (others calls fates′ s q′)
   where
     -- by the fates of stream s alone
     arrive : List Fate → List Polled
-    arrive fs = ownOf s (arrivalsFrom (λ t. none) (polledIn s (polled calls)) fs)
+    arrive fs = ownOf s (arrivalsFrom (λ t. none) (polledOf s (polled calls)) fs)
 
-    own : (fs : List Fate) → ownOf s (arrivals calls fs) ≡ arrive (fatesOf s (polled calls) fs)
-    own fs = by-fates s fs (λ t. none) (λ t. none) (polled calls) (λ t. tt) refl
+    same : (fs : List Fate) → ownOf s (arrivals calls fs) ≡ arrive (fatesOf s (polled calls) fs)
+    same fs = same-fates s fs (λ t. none) (λ t. none) (polled calls) (λ t. tt) refl

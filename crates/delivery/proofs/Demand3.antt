@@ -2,7 +2,7 @@
 -- Assumes nothing.
 use Rattle.delivery.specs.Demands.{Demand3}
 use Rattle.delivery.proofs.Polled.{polled-numbered, polled-outputs}
-use Rattle.delivery.proofs.Delivery.{delivers, always, independent, by-arrivals}
+use Rattle.delivery.proofs.Delivery.{delivers, begins, by-arrivals, fates-come, by-fates, always, independent}
 use Rattle.delivery.proofs.Together.{in-order, in-order-always}
 
 pub demand3 : Demand3
@@ -11,8 +11,11 @@ demand3 =
       written-by-polls = polled-outputs;
       numbered = polled-numbered;
       delivers = delivers;
+      begins = begins;
+      by-arrivals = by-arrivals;
+      fates-come = fates-come;
+      by-fates = by-fates;
       in-order = in-order;
       always = λ calls fates n. ((λ s. always calls fates s n), in-order-always calls fates n);
       independent = independent;
-      by-arrivals = by-arrivals;
     }

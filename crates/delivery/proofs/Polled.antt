@@ -22,7 +22,7 @@ use Rattle.paper.specs.Step.{holds, reply, nothingWaits, refused, Outcome, outc
 use Rattle.paper.specs.Reader.{packet, packetOf}
 use Rattle.paper.specs.Runs.{Call, replies}
 use Rattle.paper.specs.History.{isAccepted, sentAt, sentBy, countsAfter, numberedAll, spares, stillWaiting, sparedAt, stillWaitingAt}
-use Rattle.delivery.specs.Demands.{Polled, Numbers, isPoll, piecesQueued, none-queued, numbersAfter, takenAt, written, polledFrom, polled, pollOutputs, Numbered}
+use Rattle.delivery.specs.Demands.{Polled, Numbers, isPoll, piecesQueued, none-queued, numbersAfter, takenAt, written, polledFrom, polled, pollOutputs, Numbered, polledOf}
 use Rattle.paper.proofs.Refusals.{reply-is, passed}
 use Rattle.paper.proofs.History.{queues-step}
 use Rattle.delivery.proofs.Whole.{polled-parse}
@@ -143,9 +143,6 @@ only-append key s (x ∷ xs) ys = at (eqb (key x) s) (only-append key s xs ys)
 
 abbrev pub piecesIn : ℕ → List (Piece (List ℕ)) → List (Piece (List ℕ))
 piecesIn s q = only (λ p. p .stream) s q
-
-abbrev pub polledIn : ℕ → List Polled → List Polled
-polledIn s ps = only (λ p. p .stream) s ps
 
 bodies-append : (s : ℕ) (ps qs : List (ℕ × List ℕ)) → piecesQueued s (ps ++ qs) ≡ piecesQueued s ps ++ piecesQueued s qs
 unfolding piecesQueued
@@ -382,9 +379,9 @@ Genuines (p ∷ ps) = Genuine p × Genuines ps
 adds : (s : ℕ) (H G : List (List ℕ)) (lo : ℕ) (waiting taken spared : List (Piece (List ℕ))) (out : List ℕ) (rest : List Polled)
     → Effect s waiting taken spared out → lo ≤ length H → Rising H lo (piecesIn s waiting)
     → ((lo′ : ℕ) → lo′ ≤ length H → Rising H lo′ (piecesIn s spared)
-    → Fine s (H ++ G) lo′ (polledIn s rest) × Genuines rest)
-    → Fine s (H ++ G) lo (polledIn s (map (written out) taken ++ rest)) × Genuines (map (written out) taken ++ rest)
-unfolding only
+    → Fine s (H ++ G) lo′ (polledOf s rest) × Genuines rest)
+    → Fine s (H ++ G) lo (polledOf s (map (written out) taken ++ rest)) × Genuines (map (written out) taken ++ rest)
+unfolding only polledOf
 adds s H G lo waiting taken spared out rest (inl e) l f later = rw (e .0) (later lo l (e .1 H lo f))
 adds s H G lo waiting taken spared out rest (inr e) l f later =
     rw (e .3) (at (eqb (p .stream) s) refl (subst (λ (v : List (Piece (List ℕ))). Rising H lo (piecesIn s v)) (e .2) f))
@@ -396,7 +393,7 @@ adds s H G lo waiting taken spared out rest (inr e) l f later =
     q = e .1
 
     at : (b : Bool) → eqb (p .stream) s ≡ b → Rising H lo (cond b (p ∷ piecesIn s q) (piecesIn s q))
-        → Fine s (H ++ G) lo (cond b (written out p ∷ polledIn s rest) (polledIn s rest)) × (Genuine (written out p) × Genuines rest)
+        → Fine s (H ++ G) lo (cond b (written out p ∷ polledOf s rest) (polledOf s rest)) × (Genuine (written out p) × Genuines rest)
     at true t r =
         let more = later (suc (p .count)) (r .1) (subst (λ (v : List (Piece (List ℕ))). Rising H (suc (p .count)) (piecesIn s v)) (sym (e .4)) (r .3)) in (
           (
@@ -412,8 +409,8 @@ adds s H G lo waiting taken spared out rest (inr e) l f later =
 
 polls-fine : (s : ℕ) (xs : List Call) (c : Controller) (w : Numbers) (H : List (List ℕ)) (lo : ℕ) → Beside c w → Sizes c → Waits c
     → w .queued s ≡ length H → lo ≤ length H → Rising H lo (piecesIn s (w .waiting))
-    → Fine s (H ++ piecesQueued s (sentBy c xs)) lo (polledIn s (polledFrom c w xs)) × Genuines (polledFrom c w xs)
-unfolding polledFrom sentBy only numbersAfter
+    → Fine s (H ++ piecesQueued s (sentBy c xs)) lo (polledOf s (polledFrom c w xs)) × Genuines (polledFrom c w xs)
+unfolding polledFrom sentBy only polledOf numbersAfter
 polls-fine s [] c w H lo k z g n l f = (tt, tt)
 polls-fine s (x ∷ xs) c w H lo k z g n l f =
     let now : List (ℕ × List ℕ) = sentAt c x in
@@ -434,26 +431,26 @@ beside-start = record { queue = refl; counts = λ t. refl }
 
 -- THE POLLED PACKETS of a stream, from a fresh start
 pub polled-fine : (calls : List Call) (s : ℕ)
-    → Fine s (piecesQueued s (sentBy start calls)) 0 (polledIn s (polled calls)) × Genuines (polled calls)
-unfolding polled only
+    → Fine s (piecesQueued s (sentBy start calls)) 0 (polledOf s (polled calls)) × Genuines (polled calls)
+unfolding polled only polledOf
 polled-fine calls s = polls-fine s calls start none-queued [] 0 beside-start sizes-start waits-start refl (lit≤ tt) tt
 
 -- ---- that they are the controller's packets
 
 -- each is the piece of its number: what holds of each stream's packets holds of all
 module _ (sent : List (ℕ × List ℕ)) where
-  numbered-all : (ps : List Polled) → ((s : ℕ) → (lo : ℕ) × Fine s (piecesQueued s sent) lo (polledIn s ps)) → Numbered sent ps
-  unfolding only
+  numbered-all : (ps : List Polled) → ((s : ℕ) → (lo : ℕ) × Fine s (piecesQueued s sent) lo (polledOf s ps)) → Numbered sent ps
+  unfolding polledOf
   numbered-all [] f = tt
   numbered-all (p ∷ ps) f = (here (f (p .stream) .0) (f (p .stream) .1), numbered-all ps (λ s. rest s (eqb (p .stream) s) (f s .0) (f s .1)))
     where
       here : (lo : ℕ) → Fine (p .stream) (piecesQueued (p .stream) sent) lo
-          (cond (eqb (p .stream) (p .stream)) (p ∷ polledIn (p .stream) ps) (polledIn (p .stream) ps))
+          (cond (eqb (p .stream) (p .stream)) (p ∷ polledOf (p .stream) ps) (polledOf (p .stream) ps))
           → packetOf (p .bytes) ≡ packet (p .stream) (p .number % 4096) (getD (piecesQueued (p .stream) sent) (p .number) [])
       here lo h = (rw (eq-eqb (p .stream) (p .stream) refl) at h) .2
 
-      rest : (s : ℕ) (b : Bool) (lo : ℕ) → Fine s (piecesQueued s sent) lo (cond b (p ∷ polledIn s ps) (polledIn s ps))
-          → (lo′ : ℕ) × Fine s (piecesQueued s sent) lo′ (polledIn s ps)
+      rest : (s : ℕ) (b : Bool) (lo : ℕ) → Fine s (piecesQueued s sent) lo (cond b (p ∷ polledOf s ps) (polledOf s ps))
+          → (lo′ : ℕ) × Fine s (piecesQueued s sent) lo′ (polledOf s ps)
       rest s true lo h = (suc (p .number), h .3)
       rest s false lo h = (lo, h)
 

@@ -5,23 +5,22 @@ use mathlib.Core.Path.{_≡_, refl, sym, ap, ap₂, _∙_, subst}
 use mathlib.Core.Bool.{Bool, true, false, cond}
 use mathlib.Core.Option.{none}
 use mathlib.Core.List.{List, [], _∷_, _++_, append-assoc, append-nil}
-use Prim.Native.Nat.{ℕ, zero, suc, _%_, _≤_}
+use Prim.Native.Nat.{ℕ, _%_, _≤_}
 use native.Mathlib.Omega.{arith}
 use lib.Dec.{eqb}
-use lib.ListN.{length, getD, take, drop, take-append-drop}
-use lib.Seq.{take-at}
+use lib.ListN.{length, getD, take, drop}
 use borrow.Author.Tests.{eqb-true, eqb-false, eq-eqb, ne-eqb}
 use Rattle.wire.specs.Wire.{be16}
 use Rattle.paper.specs.Controller.{start}
 use Rattle.paper.specs.Reader.{Reader, Heard, readerStart, readerStep}
 use Rattle.paper.specs.Runs.{Call, reads, readings}
 use Rattle.paper.specs.History.{sentBy}
-use Rattle.delivery.specs.Demands.{polled, Fate, Arrival, own, strange, frame, arrivals, Quiet, arrived, Gaps, Given, handedOut, handsOut, of, arrivedWhole, InOrder}
+use Rattle.delivery.specs.Demands.{polled, Fate, Arrival, frame, arrivals, Quiet, arrived, Gaps, Comes, Given, handedOut, handsOut, of, arrivedWhole, InOrder}
 use Rattle.delivery.proofs.Sending.{sent-whole}
 use Rattle.delivery.proofs.Polled.{polled-sub}
 use Rattle.delivery.proofs.Way.{prefix}
-use Rattle.delivery.proofs.Order.{arrived-append, Stands, advance, stands, none-complete}
-use Rattle.delivery.proofs.Delivery.{always}
+use Rattle.delivery.proofs.Order.{Stands, advance, stands, none-complete}
+use Rattle.delivery.proofs.Delivery.{delivers, comes-front, fates-come}
 
 -- calls one after the other
 handed-append : (xs ys : List Call) (r : Reader)
@@ -90,23 +89,6 @@ one-of true h (d ∷ D) e = by (eqb (d .0) (h .0)) refl
         other : eqb (h .0) (d .0) ≡ false
         other = ne-eqb (h .0) (d .0) (λ k. eqb-false (d .0) (h .0) t (sym k))
 
--- of the whole way, what holds of its beginning
-quiet-take : (n : ℕ) (ys : List Arrival) → Quiet ys → Quiet (take n ys)
-quiet-take zero ys q = tt
-quiet-take (suc n) [] q = tt
-quiet-take (suc n) (own p ∷ ys) q = quiet-take n ys q
-quiet-take (suc n) (strange f ∷ ys) q = (q .0, quiet-take n ys (q .1))
-
-gaps-front : (e : ℕ) (ms ks : List ℕ) → Gaps e (ms ++ ks) → Gaps e ms
-gaps-front e [] ks g = tt
-gaps-front e (m ∷ ms) ks g = (g .0, gaps-front (suc m) ms ks (g .1))
-
-gaps-take : (s n : ℕ) (ys : List Arrival) → Gaps 0 (arrived s ys) → Gaps 0 (arrived s (take n ys))
-gaps-take s n ys g =
-    gaps-front 0 (arrived s (take n ys)) (arrived s (drop n ys))
-    (rw (arrived-append s (take n ys) (drop n ys)) at
-    (subst (λ (l : List Arrival). Gaps 0 (arrived s l)) (sym (take-append-drop n ys)) g))
-
 given-snoc : (pre : List Arrival) (xs : List Call) (y : Arrival) (x : Call) → Given pre xs → (x .bytes ≡ frame y) × (776 ≤ x .room)
     → Given (pre ++ (y ∷ [])) (xs ++ (x ∷ []))
 given-snoc [] [] y x g h = (h .0, h .1, tt)
@@ -120,10 +102,8 @@ module _ (calls : List Call) (fates : List Fate) (quiet : Quiet (arrivals calls 
   begins : (pre ys : List Arrival) → arrivals calls fates ≡ pre ++ ys → (given : List Call) → Given pre given → (s : ℕ)
       → of s (handsOut given) ≡ of s (arrivedWhole calls pre)
   begins pre ys e given g s =
-      let n : ℕ = length pre in
-      let is : take n (arrivals calls fates) ≡ pre = ap (take n) e ∙ take-at pre ys n refl in
-      subst (λ (l : List Arrival). Given l given → of s (handsOut given) ≡ of s (arrivedWhole calls l)) is
-      (λ k. always calls fates s n (quiet-take n (arrivals calls fates) quiet) (gaps-take s n (arrivals calls fates) (gaps s)) given k) g
+      delivers calls pre s
+      (comes-front calls pre ys s (subst (λ (l : List Arrival). Comes calls l s) e (fates-come calls fates s quiet (gaps s)))) given g
 
   goes-on : (ys pre : List Arrival) → arrivals calls fates ≡ pre ++ ys → Stands (sentBy start calls) pre ys → (done xs : List Call)
       → Given pre done → Given ys xs → handsOut done ≡ arrivedWhole calls pre → handsOut (done ++ xs) ≡ arrivedWhole calls (pre ++ ys)

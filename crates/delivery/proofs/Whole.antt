@@ -1,20 +1,19 @@
 -- A datastream packet as the controller queues it: its listed length, its opening and its closing. Cut into pieces and put
 -- together again it is sound and comes back; and the bytes of a poll say the piece that they were made of.
 -- Assumes nothing.
-use mathlib.Core.Path.{_≡_, refl, sym, ap, _∙_}
+use mathlib.Core.Path.{_≡_, refl, ap, _∙_}
 use mathlib.Core.Bool.{Bool, true, _&&_, _||_}
 use mathlib.Core.List.{List, _++_}
 use Prim.Native.Nat.{ℕ, zero, suc, _+_, _-_, _*_, _/_, _%_, _≤_, _<_}
-use native.Mathlib.Nat.{zero-mul, suc-mul, add-comm}
 use native.Mathlib.Omega.{arith}
 use lib.Dec.{eqb}
-use lib.ListN.{length, getD, take, drop, replicate, length-append, length-replicate, List·getD-append}
-use lib.Seq.{take-all, take-add, take-at, drop-at}
+use lib.ListN.{length, getD, take, replicate, length-append, length-replicate, List·getD-append}
+use lib.Seq.{take-all, take-at, drop-at}
 use borrow.Author.Tests.{eq-eqb}
 use Rattle.wire.specs.Wire.{be16}
 use Rattle.paper.specs.Frames.{Channel, cdmuA, cdmuB}
 use Rattle.paper.specs.Streams.{pieces, listed, carried}
-use Rattle.paper.specs.Packets.{joined, chunks, cut}
+use Rattle.paper.specs.Packets.{joined, cut}
 use Rattle.paper.specs.Queue.{Piece}
 use Rattle.paper.specs.Controller.{Both}
 use Rattle.paper.specs.Acts.{packetId, shown}

@@ -16,7 +16,7 @@ use Rattle.paper.specs.Step.{Outcome, step}
 use Rattle.paper.specs.Reader.{readerStart}
 use Rattle.paper.specs.Runs.{replies, readings}
 use Rattle.paper.specs.History.{isAccepted}
-use Rattle.delivery.specs.Demands as paper
+use Rattle.delivery.specs.Demands as delivery
 use Rattle.delivery.specs.Demands.{isPoll, polled, pollOutputs, Fate, Arrival, of}
 use Rattle.paper.proofs.Kept.{Kept, kept-start, kept-step, written, writes}
 use Rattle.delivery.proofs.Handing.{AtLength, handed-length}
@@ -34,7 +34,7 @@ use Rattle.shelf.specs.Layout.{readerBytes}
 use Rattle.shelf.specs.Fresh as shelf
 use Rattle.shelf.specs.Runs.{readingsOf}
 use Rattle.shelf.proofs.Runs.{started-readings}
-use Rattle.demand.specs.Demands.{packetsWritten, handedOut, handsOut, Called, Delivered, InOrder, Independent, Demand3}
+use Rattle.demand.specs.Demands.{packetsWritten, handedOut, handsOut, Called, Delivered, ByArrivals, ByFates, InOrder, Independent, Demand3}
 
 -- bytes at an output's front are there
 front : (o v : List ℕ) (n : ℕ) → length v ≡ n → take n (put o 0 v) ≡ v
@@ -101,9 +101,9 @@ reader-started : (lent : List ℕ) → readerBytes ≤ length lent → shelf.sta
 unfolding shelf.startOf
 reader-started lent h = rw (le-leb readerBytes (length lent) h)
 
-handed-as : (xs : List (List ℕ × List ℕ)) (hs : List (ℕ × List ℕ)) → AtLength (paper.handedOut (calls xs) hs)
-    → handedOut xs (fronts xs hs) ≡ paper.handedOut (calls xs) hs
-unfolding handedOut paper.handedOut
+handed-as : (xs : List (List ℕ × List ℕ)) (hs : List (ℕ × List ℕ)) → AtLength (delivery.handedOut (calls xs) hs)
+    → handedOut xs (fronts xs hs) ≡ delivery.handedOut (calls xs) hs
+unfolding handedOut delivery.handedOut
 handed-as [] hs l = refl
 handed-as (x ∷ xs) [] l = refl
 handed-as (x ∷ xs) (h ∷ hs) l = by (eqb (h .0) 1) l (λ m. handed-as xs hs m)
@@ -111,16 +111,16 @@ handed-as (x ∷ xs) (h ∷ hs) l = by (eqb (h .0) 1) l (λ m. handed-as xs hs m
     t : ℕ
     t = be16 (x .0) 6 % 16
 
-    by : (b : Bool) → AtLength (cond b ((t, h .1) ∷ paper.handedOut (calls xs) hs) (paper.handedOut (calls xs) hs))
-        → (AtLength (paper.handedOut (calls xs) hs) → handedOut xs (fronts xs hs) ≡ paper.handedOut (calls xs) hs)
+    by : (b : Bool) → AtLength (cond b ((t, h .1) ∷ delivery.handedOut (calls xs) hs) (delivery.handedOut (calls xs) hs))
+        → (AtLength (delivery.handedOut (calls xs) hs) → handedOut xs (fronts xs hs) ≡ delivery.handedOut (calls xs) hs)
         → cond b ((t, take (listed t) (put (x .1) 0 (h .1))) ∷ handedOut xs (fronts xs hs)) (handedOut xs (fronts xs hs))
-        ≡ cond b ((t, h .1) ∷ paper.handedOut (calls xs) hs) (paper.handedOut (calls xs) hs)
+        ≡ cond b ((t, h .1) ∷ delivery.handedOut (calls xs) hs) (delivery.handedOut (calls xs) hs)
     by true m ih = λ i. (t, front (x .1) (h .1) (listed t) (m .0) i) ∷ ih (m .1) i
     by false m ih = ih m
 
 -- what is handed out on bytes is what document 01's reader hands out
 handed-is : (ys : List Arrival) (lent : List ℕ) (given : List (List ℕ × List ℕ)) → Called ys lent given
-    → handsOut lent given ≡ paper.handsOut (calls given)
+    → handsOut lent given ≡ delivery.handsOut (calls given)
 handed-is ys lent given k =
     ap (λ (b : List ℕ). handedOut given (readingsOf b given)) (reader-started lent (k .long))
     ∙ ap (handedOut given) (started-readings lent (k .long) given (k .bytes))
@@ -128,12 +128,21 @@ handed-is ys lent given k =
 
 -- ---- the demand
 
--- of any arrivals, what document 01's reader does is done on bytes
-delivered : (xs : List (List ℕ × List ℕ)) (ys : List Arrival) (s : ℕ) → paper.Delivered (calls xs) ys s → Delivered xs ys s
-delivered xs ys s h quiet gaps lent given k =
-    ap (of s) (handed-is ys lent given k) ∙ h quiet gaps (calls given) (k .frames)
+-- what document 01's reader does is done on bytes
+delivers : (xs : List (List ℕ × List ℕ)) (ys : List Arrival) (s : ℕ) → Delivered xs ys s
+delivers xs ys s c lent given k =
+    ap (of s) (handed-is ys lent given k) ∙ demand3 .delivers (calls xs) ys s c (calls given) (k .frames)
 
-in-order : (xs : List (List ℕ × List ℕ)) (ys : List Arrival) → paper.InOrder (calls xs) ys → InOrder xs ys
+by-arrivals : (ys zs : List Arrival) (s : ℕ) → ByArrivals ys zs s
+by-arrivals ys zs s e n n′ lent lent′ given given′ k k′ =
+    ap (of s) (handed-is ys lent given k)
+    ∙ demand3 .by-arrivals ys zs s e n n′ (calls given) (calls given′) (k .frames) (k′ .frames)
+    ∙ sym (ap (of s) (handed-is zs lent′ given′ k′))
+
+by-fates : (xs : List (List ℕ × List ℕ)) (ys : List Arrival) (s : ℕ) → delivery.ByFates (calls xs) ys s → ByFates xs ys s
+by-fates xs ys s h quiet gaps lent given k = ap (of s) (handed-is ys lent given k) ∙ h quiet gaps (calls given) (k .frames)
+
+in-order : (xs : List (List ℕ × List ℕ)) (ys : List Arrival) → delivery.InOrder (calls xs) ys → InOrder xs ys
 in-order xs ys h quiet gaps lent given k = handed-is ys lent given k ∙ h quiet gaps (calls given) (k .frames)
 
 independent : (xs : List (List ℕ × List ℕ)) (fates fates′ : List Fate) (s : ℕ) → Independent xs fates fates′ s
@@ -146,10 +155,12 @@ pub demand3-calls : Demand3
 demand3-calls =
     record {
       packets = packets;
-      delivers = λ xs fates s. delivered xs _ s (demand3 .delivers (calls xs) fates s);
+      delivers = delivers;
+      by-arrivals = by-arrivals;
+      by-fates = λ xs fates s. by-fates xs _ s (demand3 .by-fates (calls xs) fates s);
       in-order = λ xs fates. in-order xs _ (demand3 .in-order (calls xs) fates);
       always =
           λ xs fates n.
-          ((λ s. delivered xs _ s (demand3 .always (calls xs) fates n .0 s)), in-order xs _ (demand3 .always (calls xs) fates n .1));
+          ((λ s. by-fates xs _ s (demand3 .always (calls xs) fates n .0 s)), in-order xs _ (demand3 .always (calls xs) fates n .1));
       independent = independent;
     }

@@ -14,7 +14,7 @@ use Rattle.wire.specs.Wire.{be16}
 use Rattle.paper.specs.Frames.{frameOf}
 use Rattle.paper.specs.Streams.{listed}
 use Rattle.paper.specs.History.{isAccepted}
-use Rattle.delivery.specs.Demands.{isPoll, polled, Fate, Arrival, arrivals, fatesOf, Quiet, arrived, Gaps, Given, of, arrivedWhole}
+use Rattle.delivery.specs.Demands.{isPoll, polled, Arrival, ownOf, arrived, NoOthers, Gaps, Comes, Given, of, arrivedWhole, Fate, arrivals, Quiet, fatesOf}
 use Rattle.state.specs.Layout.{stateBytes}
 use Rattle.state.specs.Calls.{Framed, calls}
 use Rattle.machine.specs.Called.{startOf}
@@ -46,17 +46,29 @@ handedOut (x ∷ xs) (h ∷ hs) =
 abbrev pub handsOut : List ℕ → List (List ℕ × List ℕ) → List (ℕ × List ℕ)
 handsOut lent given = handedOut given (readingsOf (shelf.startOf lent .state) given)
 
--- ---- the demand
-
 -- The reader's calls: the frames that arrive, each with an output of 776 bytes or more; `lent` are the reader's bytes.
 pub record Called (ys : List Arrival) (lent : List ℕ) (given : List (List ℕ × List ℕ)) : Type 0 where
   pub long : readerBytes ≤ length lent
   pub bytes : Framed given
   pub frames : Given ys (calls given)
 
+-- ---- of any arrivals
+
 -- `xs` are the controller's calls, and `calls xs` the same as document 01 sees them.
 abbrev pub Delivered : List (List ℕ × List ℕ) → List Arrival → ℕ → Type 0
 Delivered xs ys s =
+    Comes (calls xs) ys s → (lent : List ℕ) (given : List (List ℕ × List ℕ)) → Called ys lent given
+    → of s (handsOut lent given) ≡ of s (arrivedWhole (calls xs) ys)
+
+abbrev pub ByArrivals : List Arrival → List Arrival → ℕ → Type 0
+ByArrivals ys zs s =
+    ownOf s ys ≡ ownOf s zs → NoOthers s ys → NoOthers s zs → (lent lent′ : List ℕ) (given given′ : List (List ℕ × List ℕ))
+    → Called ys lent given → Called zs lent′ given′ → of s (handsOut lent given) ≡ of s (handsOut lent′ given′)
+
+-- ---- by fates
+
+abbrev pub ByFates : List (List ℕ × List ℕ) → List Arrival → ℕ → Type 0
+ByFates xs ys s =
     Quiet ys → Gaps 0 (arrived s ys) → (lent : List ℕ) (given : List (List ℕ × List ℕ)) → Called ys lent given
     → of s (handsOut lent given) ≡ of s (arrivedWhole (calls xs) ys)
 
@@ -72,13 +84,17 @@ Independent xs fates fates′ s =
     → Called (arrivals (calls xs) fates) lent given → Called (arrivals (calls xs) fates′) lent′ given′
     → of s (handsOut lent given) ≡ of s (handsOut lent′ given′)
 
+-- ---- the demand
+
 -- The packets on the way are those that the polls among the controller's calls wrote into their outputs, whatever bytes are lent to
 -- it; then as in `Rattle.delivery.specs.Demands.Demand3`.
 pub record Demand3 : Type 0 where
   pub packets : (lent : List ℕ) → stateBytes ≤ length lent → (xs : List (List ℕ × List ℕ)) → Framed xs
       → packetsWritten xs (repliesOf (startOf lent .state) xs) ≡ map (λ p. p .bytes) (polled (calls xs))
-  pub delivers : (xs : List (List ℕ × List ℕ)) (fates : List Fate) (s : ℕ) → Delivered xs (arrivals (calls xs) fates) s
+  pub delivers : (xs : List (List ℕ × List ℕ)) (ys : List Arrival) (s : ℕ) → Delivered xs ys s
+  pub by-arrivals : (ys zs : List Arrival) (s : ℕ) → ByArrivals ys zs s
+  pub by-fates : (xs : List (List ℕ × List ℕ)) (fates : List Fate) (s : ℕ) → ByFates xs (arrivals (calls xs) fates) s
   pub in-order : (xs : List (List ℕ × List ℕ)) (fates : List Fate) → InOrder xs (arrivals (calls xs) fates)
   pub always : (xs : List (List ℕ × List ℕ)) (fates : List Fate) (n : ℕ)
-      → ((s : ℕ) → Delivered xs (take n (arrivals (calls xs) fates)) s) × InOrder xs (take n (arrivals (calls xs) fates))
+      → ((s : ℕ) → ByFates xs (take n (arrivals (calls xs) fates)) s) × InOrder xs (take n (arrivals (calls xs) fates))
   pub independent : (xs : List (List ℕ × List ℕ)) (fates fates′ : List Fate) (s : ℕ) → Independent xs fates fates′ s
