@@ -33,6 +33,9 @@ use Rattle.shelf.specs.Received.{readOf}
 use Rattle.shelf.specs.Runs.{readsOf}
 use Rattle.shelf.proofs.Fresh as fresh
 use Rattle.shelf.proofs.Refusals.{kept, output, unfit as unfit-told}
+use Rattle.shelf.proofs.Ranges.{fit-true as reader-fit}
+use Rattle.shelf.proofs.Steps.{received-view}
+use Rattle.shelf.proofs.Leaves.{later-bytes, output-past, moved-on}
 use Rattle.shelf.proofs.Runs.{never-25}
 use Rattle.demand.specs.Refusing.{found, Starts, Judges, Receives, Demand1}
 
@@ -207,6 +210,10 @@ demand1 =
             number = hears;
             silent = λ s f o. output s f o .stays;
             only-23 = kept;
+            handed-past = output-past;
+            later-bytes = later-bytes;
+            leaves = λ s f o e b. received-view s f o (reader-fit s e) b;
+            moved-on = moved-on;
             never-25 = λ s h xs b. ap (λ (t : Told). fitReader (readsOf (t .state) xs)) (reader-begun s h) ∙ never-25 s h xs b;
           };
     }

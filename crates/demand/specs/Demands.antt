@@ -2,7 +2,7 @@
 -- `Rattle.delivery.specs.Demands` says, byte for byte, for any buffers that are long enough, any frames and any outputs.
 --
 -- A call is a frame with the output that is lent with it. `stepOf` and `readOf` are what the entries do to their bytes: their
--- contracts are equations with them. `startOf` starts both afresh.
+-- contracts are equations with them. `startOf` starts both afresh. (`Framed`: frames are of bytes, as Lib says.)
 -- Assumes nothing.
 use mathlib.Core.Path.{_≡_}
 use mathlib.Core.Bool.{cond, _&&_}

@@ -4,7 +4,7 @@
 -- Lent bytes are started and then called with any frames and outputs; the paper's controller is started and hears the same frames. A
 -- further call gives the paper's reply, the paper's bytes at the output's front with the rest as it was, and leaves bytes that hold
 -- the paper's controller, that is its mode, its impact record, its counts, its open and waiting packets. So does the reader's.
--- Which packets it recovers is said by demand 3, from the same two machines.
+-- Which packets it recovers is said by demand 3, from the same two machines. (`Bytes` and `Framed`: frames are of bytes, as Lib says.)
 -- Assumes nothing.
 use mathlib.Core.List.{List}
 use Prim.Native.Nat.{ℕ, _≤_}

@@ -3,23 +3,26 @@
 --
 -- That a call ends, for any arguments, is proved with each entry's contract, which asks for nothing. A contract is an equation with
 -- one of these functions: `startOf` and `stepOf` of the controller, `startOf` and `readOf` of the reader. What those say of refusals
--- is said here, for any bytes s, frame or packet f and output o.
+-- is said here, for any bytes s, frame or packet f and output o. (`Bytes` and `Framed`: frames are of bytes, as Lib says.)
 -- Assumes nothing.
 use mathlib.Core.Path.{_≡_}
 use mathlib.Core.Bool.{true, false, cond}
-use mathlib.Core.List.{List}
+use mathlib.Core.List.{List, []}
 use mathlib.Core.Logic.{_⊎_}
-use Prim.Native.Nat.{ℕ, _≤_, _<_}
+use Prim.Native.Nat.{ℕ, _/_, _%_, _≤_, _<_}
 use lib.ListN.{length, drop}
+use Rattle.wire.specs.Wire.{be16}
 use Rattle.paper.specs.Frames.{Channel, broadcast, command, frameOf}
+use Rattle.paper.specs.Streams.{pieces, listed}
+use Rattle.paper.specs.Queue.{put}
 use Rattle.paper.specs.Controller.{Controller, start}
 use Rattle.paper.specs.Step.{Lent, unfit, holds, reply, isError, lateHeard, erred, changesListed}
-use Rattle.paper.specs.Reader.{Reader, readerStart, readerStep}
+use Rattle.paper.specs.Reader.{Track, distance, placed, Reader, readerStart, readerStep}
 use Rattle.state.specs.Layout.{stateBytes}
 use Rattle.state.specs.View.{view}
 use Rattle.state.specs.Range.{fit}
 use Rattle.state.specs.Told.{Told, told, Res, res}
-use Rattle.state.specs.Calls.{Framed}
+use Rattle.state.specs.Calls.{Bytes, Framed}
 use Rattle.machine.specs.Called.{stepOf, startOf}
 use Rattle.machine.specs.Runs.{runOf}
 use Rattle.shelf.specs.Layout.{readerBytes}
@@ -57,14 +60,37 @@ pub record Judges : Type 0 where
   pub never-10 : (s : List ℕ) → stateBytes ≤ length s → (xs : List (List ℕ × List ℕ)) → Framed xs
       → fit (runOf (startOf s .state) xs) ≡ true
 
+-- "count times 16 plus stream": what a packet's bytes say
+abbrev pub streamIn : List ℕ → ℕ
+streamIn f = be16 f 6 % 16
+
+abbrev pub countIn : List ℕ → ℕ
+countIn f = be16 f 6 / 16
+
+-- a stream's record, of k pieces, that has moved on to a count, with no gathering
+abbrev pub movedOn : ℕ → Track (List ℕ) → ℕ → Track (List ℕ)
+movedOn k t count =
+    record { last = count; place = placed k (t .place) (distance (t .last) count); running = false; gathered = [] }
+
 -- "Order 25, 24, 20, 21, 22, 23. Only 23 changes state; no refusal writes output, and bytes past what is handed out stay." "25 lent
--- state unfit, as 10"
+-- state unfit, as 10" "23 finished but opening, closing or fill bytes are wrong (record moved on, gathering empty)"
+--
+-- A call leaves bytes that hold the reader that document 01's is left with (`leaves`). After 23 that is the one before with the record of
+-- the packet's stream moved on, every other stream's as it was (`moved-on`).
 pub record Receives : Type 0 where
   pub unfit : (s f o : List ℕ) → fitReader s ≡ false → readOf s f o ≡ res 25 o s
   pub number : (s f o : List ℕ) → fitReader s ≡ true → readOf s f o .reply ≡ readerStep (readerIn s) f (length o) .reply
   pub silent : (s f o : List ℕ) → (readOf s f o .out ≡ o) ⊎ (readOf s f o .reply ≡ 1)
   pub only-23 : (s f o : List ℕ)
       → (readOf s f o .state ≡ s) ⊎ ((readOf s f o .reply ≡ 0) ⊎ ((readOf s f o .reply ≡ 1) ⊎ (readOf s f o .reply ≡ 23)))
+  pub handed-past : (s f o : List ℕ) → readOf s f o .reply ≡ 1
+      → drop (listed (streamIn f)) (readOf s f o .out) ≡ drop (listed (streamIn f)) o
+  pub later-bytes : (s f o : List ℕ) → drop readerBytes (readOf s f o .state) ≡ drop readerBytes s
+  pub leaves : (s f o : List ℕ) → fitReader s ≡ true → Bytes f
+      → readerIn (readOf s f o .state) ≡ readerStep (readerIn s) f (length o) .next
+  pub moved-on : (s f o : List ℕ) → Bytes f → readOf s f o .reply ≡ 23
+      → let t : ℕ = streamIn f in
+      readerIn (readOf s f o .state) ≡ put (readerIn s) t (movedOn (pieces t) (readerIn s t) (countIn f))
   pub never-25 : (s : List ℕ) → readerBytes ≤ length s → (xs : List (List ℕ × List ℕ)) → Framed xs
       → fitReader (readsOf (startReader s .state) xs) ≡ true
 

@@ -103,7 +103,7 @@ kept s f o = at (fit s) (ltb (length o) 776)
 abbrev Written : Heard → Type 0
 Written h = (h .out ≡ []) ⊎ ((h .reply ≡ 1) × (length (h .out) ≤ 776))
 
-listed-most : (t : ℕ) → listed t ≤ 776
+pub listed-most : (t : ℕ) → listed t ≤ 776
 listed-most =
     by-row (λ t r. r .listed ≤ 776) (omega arith) (omega arith) (omega arith) (omega arith) (omega arith) (omega arith) (omega arith)
     (λ t. omega arith)

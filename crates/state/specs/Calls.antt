@@ -6,10 +6,12 @@ use lib.ListN.{length, getD}
 use Rattle.wire.specs.Wire.{put}
 use Rattle.paper.specs.Runs.{Call, call}
 
--- a frame is of bytes
+-- A frame is of bytes: numbers below 256. A slice of Rattle, as a buffer of C, holds nothing else, so no caller has to see to it; it is
+-- said because definitions speak of lists of any numbers.
 abbrev pub Bytes : List ℕ → Type 0
 Bytes f = (i : ℕ) → getD f i 0 < 256
 
+-- the frames of calls are; of outputs nothing is asked
 abbrev pub Framed : List (List ℕ × List ℕ) → Type 0
 Framed [] = Unit {0}
 Framed (x ∷ xs) = Bytes (x .0) × Framed xs
