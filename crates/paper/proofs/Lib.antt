@@ -1,4 +1,5 @@
--- What document 01 states about its machine, proved on the definitions of specs/. Demand 3 is proved in `delivery`.
+-- What document 01 states about its machine, proved on the definitions of specs/, and the worked examples (Counts, Worked). Demand 3 is
+-- proved in `delivery`.
 pub mod All
 pub mod Table
 pub mod Shapes
@@ -7,5 +8,6 @@ pub mod Modes
 pub mod Labels
 pub mod Kept
 pub mod History
-pub mod Edges
 pub mod Packets
+pub mod Counts
+pub mod Worked

@@ -1,0 +1,56 @@
+-- The sequence word of a poll, after any calls; and the worked examples of counts.
+-- Assumes nothing.
+use mathlib.Core.Path.{_≡_, refl, sym, ap, _∙_}
+use mathlib.Core.List.{List, [], _∷_, _++_}
+use Prim.Native.Nat.{ℕ, suc, _+_, _%_}
+use lib.Dec.{eqb}
+use lib.ListN.{length, take}
+use borrow.Author.Tests.{eqb-false, ne-eqb}
+use native.Mathlib.Omega.{arith}
+use Rattle.wire.specs.Wire.{bytes16}
+use Rattle.paper.specs.Frames.{Channel, cdmuA, cdmuB, onChannel, frameOf}
+use Rattle.paper.specs.Queue.{Piece}
+use Rattle.paper.specs.Controller.{at, Controller, start}
+use Rattle.paper.specs.Acts.{packetId, noted, shown, shownFrom, answer}
+use Rattle.paper.specs.Step.{reply, refused, replied, step}
+use Rattle.paper.specs.Runs.{Call, runs}
+use Rattle.paper.specs.History.{history, pollsOn}
+use Rattle.paper.specs.WorkedCounts.{pollOn, Begins, Counts}
+use Rattle.paper.proofs.History.{counted}
+
+-- An accepted poll begins with its channel's ID and the telemetry count of that channel.
+poll-begins : (c : Controller) (cc : Channel) → step c (pollOn cc) 126 .reply ≡ 0
+    → take 4 (step c (pollOn cc) 126 .out) ≡ bytes16 (packetId cc) ++ bytes16 (0xC000 + at cc (c .tallies .telemetry) % 16384)
+unfolding onChannel frameOf shown shownFrom answer reply refused replied step
+poll-begins c cdmuA e = by (c .queue) refl
+  where
+    by : (q : List (Piece (List ℕ))) → c .queue ≡ q
+        → take 4 (step c (pollOn cdmuA) 126 .out) ≡ bytes16 (packetId cdmuA) ++ bytes16 (0xC000 + c .tallies .telemetry .a % 16384)
+    by [] h = absurd (eqb-false 9 0 refl (rw h at e))
+    by (p ∷ rest) h = rw (h, ne-eqb (suc (length rest)) 0 (λ z. omega (arith, z)))
+poll-begins c cdmuB e = by (c .queue) refl
+  where
+    by : (q : List (Piece (List ℕ))) → c .queue ≡ q
+        → take 4 (step c (pollOn cdmuB) 126 .out) ≡ bytes16 (packetId cdmuB) ++ bytes16 (0xC000 + c .tallies .telemetry .b % 16384)
+    by [] h = absurd (eqb-false 9 0 refl (rw h at e))
+    by (p ∷ rest) h = rw (h, ne-eqb (suc (length rest)) 0 (λ z. omega (arith, z)))
+
+-- "C000 plus that channel's telemetry count modulo 16384", by the polls made
+pub sequence-word : (cc : Channel) (n : ℕ) → Begins cc n (bytes16 (packetId cc) ++ bytes16 (0xC000 + n % 65536 % 16384))
+sequence-word cc n calls k e =
+    poll-begins (runs start calls) cc e
+    ∙ ap (λ m. bytes16 (packetId cc) ++ bytes16 (0xC000 + m % 16384)) (counted calls .telemetry cc ∙ ap (λ m. m % 65536) k)
+
+pub counts : Counts
+unfolding noted start
+counts =
+    record {
+      polls-16383 = sequence-word cdmuA 16383;
+      polls-16384 = sequence-word cdmuA 16384;
+      polls-40000 = sequence-word cdmuB 40000;
+      polls-65535 = sequence-word cdmuB 65535;
+      polls-65536 = sequence-word cdmuB 65536;
+      wraps = (refl, refl, refl, refl);
+      sequence-low = refl;
+      id-low = refl;
+    }

@@ -1,0 +1,75 @@
+-- The worked examples hold: each table is computed on the definitions.
+-- Assumes nothing.
+use mathlib.Core.Path.{refl}
+use Rattle.paper.specs.Frames.{onChannel, frameOf}
+use Rattle.paper.specs.Clock.{ticked}
+use Rattle.paper.specs.Mode.{number, modeOf, nibble, target, greater, next, ruled, entered}
+use Rattle.paper.specs.Impact.{signed, above}
+use Rattle.paper.specs.Commands.{outside, decoded}
+use Rattle.paper.specs.Streams.{rowOf, takenIn}
+use Rattle.paper.specs.Packets.{joined, dataOf, datastream, cut}
+use Rattle.paper.specs.Queue.{numbered, after, put, without}
+use Rattle.paper.specs.Controller.{Controller, start, queued}
+use Rattle.paper.specs.Housekeeping.{housekeepingData, housekeepingPacket}
+use Rattle.paper.specs.Status.{wordA, wordB}
+use Rattle.paper.specs.Acts.{emptied, enter, heard, moved, counted, last, completes, taken, detected, watched, impactPacket, completed, watching, ticks, joinedBy, closed, extended, sampled, noted, cleared, commanded, obeyed, shown, polled, statusWord, performed, polledFrom, shownFrom, accepted, answer}
+use Rattle.paper.specs.Step.{reply, lateHeard, erred, refused, replied, step}
+use Rattle.paper.specs.Reader.{arrive, wellFormed, packetOf, sound, readerStart, received, understood, readerStep}
+use Rattle.paper.specs.Worked.{Worked}
+
+pub worked : Worked
+unfolding onChannel frameOf ticked number modeOf nibble target greater next ruled entered signed above outside decoded rowOf takenIn dataOf datastream cut numbered after put without start queued housekeepingData housekeepingPacket wordA wordB emptied enter heard moved counted last completes taken detected watched impactPacket completed watching ticks joinedBy closed extended sampled noted cleared commanded obeyed shown polled statusWord performed polledFrom shownFrom accepted answer reply lateHeard erred refused replied step arrive wellFormed packetOf sound readerStart received understood readerStep
+worked =
+    record {
+      replies-sizes = refl;
+      replies-channels = refl;
+      replies-commands = refl;
+      replies-masks = refl;
+      replies-streams = refl;
+      replies-lengths = refl;
+      replies-modes = refl;
+      replies-values = refl;
+      replies-late = refl;
+      replies-rooms = refl;
+      replies-slots = refl;
+      modes-descent = refl;
+      modes-heights = refl;
+      modes-one-change = refl;
+      modes-stays-0 = refl;
+      modes-stays-6 = refl;
+      modes-stays-7 = refl;
+      modes-locked-1 = refl;
+      modes-locked-2 = refl;
+      modes-locked-3 = refl;
+      modes-locked-4 = refl;
+      modes-locked-5 = refl;
+      modes-set-mode = refl;
+      modes-four-again = refl;
+      modes-five-again = refl;
+      modes-entries = refl;
+      modes-m = refl;
+      impact-signed = refl;
+      impact-above = refl;
+      impact-elsewhere = refl;
+      impact-unlocked = refl;
+      impact-locked = refl;
+      impact-emptied = refl;
+      impact-abandoned = refl;
+      packets-interleaved = refl;
+      packets-acc-e = refl;
+      packets-room = refl;
+      packets-clears = refl;
+      packets-clears-all = refl;
+      housekeeping-every-field = refl;
+      housekeeping-fresh = refl;
+      housekeeping-errors = refl;
+      housekeeping-errors-wrap = refl;
+      status-flags = refl;
+      status-own = refl;
+      reader-one-piece = refl;
+      reader-first-counts = refl;
+      reader-refusals = refl;
+      reader-five-pieces = refl;
+      reader-five-wrong = refl;
+      reader-seven-pieces = refl;
+    }

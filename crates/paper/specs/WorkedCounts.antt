@@ -1,0 +1,38 @@
+-- Worked examples of counts that no table plays, being too long, or never met by a frame that is accepted. The long ones rest on the law
+-- that counts are the numbers of the history (`counted`).
+-- Assumes nothing.
+use mathlib.Core.Path.{_≡_}
+use mathlib.Core.List.{List, [], _∷_}
+use Prim.Native.Nat.{ℕ}
+use lib.ListN.{take}
+use Rattle.paper.specs.Frames.{Channel, cdmuA, cdmuB}
+use Rattle.paper.specs.Controller.{start, raised, raised8}
+use Rattle.paper.specs.Acts.{noted}
+use Rattle.paper.specs.Step.{step}
+use Rattle.paper.specs.Runs.{Call, runs}
+use Rattle.paper.specs.History.{history, pollsOn}
+use Rattle.paper.specs.Tables.{bytes}
+
+abbrev pub pollOn : Channel → List ℕ
+pollOn cdmuA = bytes "05 0A"
+pollOn cdmuB = bytes "05 0B"
+
+-- After any calls among which n polls on a channel were accepted, the next that is accepted on it begins with this packet ID and
+-- sequence word.
+abbrev pub Begins : Channel → ℕ → List ℕ → Type 0
+Begins cc n head =
+    (calls : List Call) → pollsOn cc (history start calls) ≡ n → step (runs start calls) (pollOn cc) 126 .reply ≡ 0
+    → take 4 (step (runs start calls) (pollOn cc) 126 .out) ≡ head
+
+pub record Counts : Type 0 where
+  -- "C000 plus that channel's telemetry count modulo 16384"
+  pub polls-16383 : Begins cdmuA 16383 (bytes "0F94 FFFF")
+  pub polls-16384 : Begins cdmuA 16384 (bytes "0F94 C000")
+  pub polls-40000 : Begins cdmuB 40000 (bytes "0FB4 DC40")
+  pub polls-65535 : Begins cdmuB 65535 (bytes "0FB4 FFFF")
+  pub polls-65536 : Begins cdmuB 65536 (bytes "0FB4 C000")
+  -- "All counts of 16 bits go from 65535 to 0 on purpose; the error count is 8 bits and wraps too."
+  pub wraps : (raised 65534 ≡ 65535) × (raised 65535 ≡ 0) × (raised8 254 ≡ 255) × (raised8 255 ≡ 0)
+  -- "stores the low bytes of sequence and id": of the ids that are accepted none has a low byte above 32
+  pub sequence-low : noted start cdmuA 0x12F6 0x34E5 .tallies .sequence ≡ 0xE5
+  pub id-low : noted start cdmuA 0x12F6 0x34E5 .tallies .id ≡ 0xF6
