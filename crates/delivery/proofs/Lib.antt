@@ -1,4 +1,5 @@
--- Demand 3 holds; Demand3 is the last step. Handing says how long a handed-out packet is, and Sharp that 4,094 is the most.
+-- Demand 3 holds; Demand3 is the last step. Handing says how long a handed-out packet is, Sharp that 4,094 is the
+-- most, and Across that another order among streams is within the demand.
 pub mod Sizes
 pub mod Whole
 pub mod Sending
@@ -13,3 +14,4 @@ pub mod Together
 pub mod Demand3
 pub mod Handing
 pub mod Sharp
+pub mod Across

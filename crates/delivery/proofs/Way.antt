@@ -64,6 +64,11 @@ chosen-skip : (p : Polled) (ps qs : List Polled) → Chosen ps qs → Chosen (p 
 chosen-skip p ps [] c = tt
 chosen-skip p ps (q ∷ qs) c = inl c
 
+-- all of them
+pub chosen-all : (ps : List Polled) → Chosen ps ps
+chosen-all [] = tt
+chosen-all (p ∷ ps) = inr (refl, chosen-skip p ps ps (chosen-all ps))
+
 chosen-past : (l p : Polled) (ps qs : List Polled) → Chosen (l ∷ ps) qs → Chosen (l ∷ p ∷ ps) qs
 chosen-past l p ps [] c = tt
 chosen-past l p ps (q ∷ qs) (inl c) = inl (inl c)
