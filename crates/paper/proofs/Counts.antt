@@ -1,9 +1,8 @@
 -- The sequence word of a poll, after any calls; and the worked examples of counts.
 -- Assumes nothing.
-use mathlib.Core.Path.{_≡_, refl, sym, ap, _∙_}
+use mathlib.Core.Path.{_≡_, refl, ap, _∙_}
 use mathlib.Core.List.{List, [], _∷_, _++_}
 use Prim.Native.Nat.{ℕ, suc, _+_, _%_}
-use lib.Dec.{eqb}
 use lib.ListN.{length, take}
 use borrow.Author.Tests.{eqb-false, ne-eqb}
 use native.Mathlib.Omega.{arith}
@@ -13,8 +12,7 @@ use Rattle.paper.specs.Queue.{Piece}
 use Rattle.paper.specs.Controller.{at, Controller, start}
 use Rattle.paper.specs.Acts.{packetId, noted, shown, shownFrom, answer}
 use Rattle.paper.specs.Step.{reply, refused, replied, step}
-use Rattle.paper.specs.Runs.{Call, runs}
-use Rattle.paper.specs.History.{history, pollsOn}
+use Rattle.paper.specs.Runs.{runs}
 use Rattle.paper.specs.WorkedCounts.{pollOn, Begins, Counts}
 use Rattle.paper.proofs.History.{counted}
 

@@ -7,9 +7,9 @@ use Rattle.paper.specs.Mode.{number, modeOf, nibble, target, greater, ne
 use Rattle.paper.specs.Impact.{signed, above}
 use Rattle.paper.specs.Commands.{outside, decoded}
 use Rattle.paper.specs.Streams.{rowOf, takenIn}
-use Rattle.paper.specs.Packets.{joined, dataOf, datastream, cut}
+use Rattle.paper.specs.Packets.{dataOf, datastream, cut}
 use Rattle.paper.specs.Queue.{numbered, after, put, without}
-use Rattle.paper.specs.Controller.{Controller, start, queued}
+use Rattle.paper.specs.Controller.{start, queued}
 use Rattle.paper.specs.Housekeeping.{housekeepingData, housekeepingPacket}
 use Rattle.paper.specs.Status.{wordA, wordB}
 use Rattle.paper.specs.Acts.{emptied, enter, heard, moved, counted, last, completes, taken, detected, watched, impactPacket, completed, watching, ticks, joinedBy, closed, extended, sampled, noted, cleared, commanded, obeyed, shown, polled, statusWord, performed, polledFrom, shownFrom, accepted, answer}
@@ -23,15 +23,15 @@ worked =
     record {
       replies-sizes = refl;
       replies-channels = refl;
-      replies-commands = refl;
+      replies-ids-and-lengths = refl;
       replies-masks = refl;
       replies-streams = refl;
       replies-lengths = refl;
       replies-modes = refl;
       replies-values = refl;
-      replies-late = refl;
+      replies-late-broadcasts = refl;
       replies-rooms = refl;
-      replies-slots = refl;
+      replies-full-queue = refl;
       modes-descent = refl;
       modes-heights = refl;
       modes-one-change = refl;
@@ -47,25 +47,25 @@ worked =
       modes-four-again = refl;
       modes-five-again = refl;
       modes-entries = refl;
-      modes-m = refl;
+      modes-m-counts = refl;
       impact-signed = refl;
-      impact-above = refl;
+      impact-above-or-not = refl;
       impact-elsewhere = refl;
-      impact-unlocked = refl;
-      impact-locked = refl;
-      impact-emptied = refl;
+      impact-unlocked-run = refl;
+      impact-locked-run = refl;
+      impact-entries-to-4 = refl;
       impact-abandoned = refl;
       packets-interleaved = refl;
-      packets-acc-e = refl;
-      packets-room = refl;
+      packets-acc-e-packets = refl;
+      packets-short-of-room = refl;
       packets-clears = refl;
       packets-clears-all = refl;
       housekeeping-every-field = refl;
-      housekeeping-fresh = refl;
-      housekeeping-errors = refl;
+      housekeeping-from-fresh = refl;
+      housekeeping-after-errors = refl;
       housekeeping-errors-wrap = refl;
-      status-flags = refl;
-      status-own = refl;
+      status-each-flag = refl;
+      status-own-bits = refl;
       reader-one-piece = refl;
       reader-first-counts = refl;
       reader-refusals = refl;

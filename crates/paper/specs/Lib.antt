@@ -1,7 +1,7 @@
 -- Document 01, the base, as definitions, in its order:
 -- Frames; Clock and Mode; Impact; Commands; Streams, Packets and Queue; the Controller's state; Housekeeping; Status; what each
 -- frame does (Acts); the replies in their order, and one call (Step); the Reader; runs and their history; the examples marked P.
--- Beside them examples worked out by hand: the words of their tables (Tables), the tables by document 01's sections (WorkedReplies to
+-- Beside them examples worked out by hand: the words of their tables (WorkedLines), the tables by document 01's sections (WorkedReplies to
 -- WorkedReader, WorkedCounts), and what they claim (Worked).
 pub mod Frames
 pub mod Clock
@@ -20,7 +20,7 @@ pub mod Reader
 pub mod Runs
 pub mod History
 pub mod Examples
-pub mod Tables
+pub mod WorkedLines
 pub mod WorkedReplies
 pub mod WorkedModes
 pub mod WorkedImpact

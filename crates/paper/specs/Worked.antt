@@ -4,7 +4,7 @@ use mathlib.Core.Path.{_≡_}
 use mathlib.Core.List.{[], _∷_, map}
 use lib.IntN.{pos, negsuc}
 use Rattle.paper.specs.Impact.{signed}
-use Rattle.paper.specs.Tables.{Answers, Hears}
+use Rattle.paper.specs.WorkedLines.{Answers, Hears}
 use Rattle.paper.specs.WorkedReplies as replies
 use Rattle.paper.specs.WorkedModes as modes
 use Rattle.paper.specs.WorkedImpact as impact
@@ -17,15 +17,15 @@ pub record Worked : Type 0 where
   -- "Frames" and "What the controller replies"
   pub replies-sizes : Answers replies.sizes
   pub replies-channels : Answers replies.channels
-  pub replies-commands : Answers replies.commands
+  pub replies-ids-and-lengths : Answers replies.ids-and-lengths
   pub replies-masks : Answers replies.masks
   pub replies-streams : Answers replies.streams
   pub replies-lengths : Answers replies.lengths
   pub replies-modes : Answers replies.modes
   pub replies-values : Answers replies.values
-  pub replies-late : Answers replies.late
+  pub replies-late-broadcasts : Answers replies.late-broadcasts
   pub replies-rooms : Answers replies.rooms
-  pub replies-slots : Answers replies.slots
+  pub replies-full-queue : Answers replies.full-queue
   -- "Time and mode"
   pub modes-descent : Answers modes.descent
   pub modes-heights : Answers modes.heights
@@ -42,28 +42,28 @@ pub record Worked : Type 0 where
   pub modes-four-again : Answers modes.four-again
   pub modes-five-again : Answers modes.five-again
   pub modes-entries : Answers modes.entries
-  pub modes-m : Answers modes.m
+  pub modes-m-counts : Answers modes.m-counts
   -- "Impact"; a reading's value is exact at 2047, 2048 and 4095
   pub impact-signed : map signed (0 ∷ 2047 ∷ 2048 ∷ 4095 ∷ []) ≡ pos 0 ∷ pos 2047 ∷ negsuc 2047 ∷ negsuc 0 ∷ []
-  pub impact-above : Answers impact.above
+  pub impact-above-or-not : Answers impact.above-or-not
   pub impact-elsewhere : Answers impact.elsewhere
-  pub impact-unlocked : Answers impact.unlocked
-  pub impact-locked : Answers impact.locked
-  pub impact-emptied : Answers impact.emptied
+  pub impact-unlocked-run : Answers impact.unlocked-run
+  pub impact-locked-run : Answers impact.locked-run
+  pub impact-entries-to-4 : Answers impact.entries-to-4
   pub impact-abandoned : Answers impact.abandoned
   -- "Streams and packets"
   pub packets-interleaved : Answers packets.interleaved
-  pub packets-acc-e : Answers packets.acc-e
-  pub packets-room : Answers packets.room
+  pub packets-acc-e-packets : Answers packets.acc-e-packets
+  pub packets-short-of-room : Answers packets.short-of-room
   pub packets-clears : Answers packets.clears
   pub packets-clears-all : Answers packets.clears-all
   pub housekeeping-every-field : Answers housekeeping.every-field
-  pub housekeeping-fresh : Answers housekeeping.fresh
-  pub housekeeping-errors : Answers housekeeping.errors
+  pub housekeeping-from-fresh : Answers housekeeping.from-fresh
+  pub housekeeping-after-errors : Answers housekeeping.after-errors
   pub housekeeping-errors-wrap : Answers housekeeping.errors-wrap
   -- "Status words"
-  pub status-flags : Answers status.flags
-  pub status-own : Answers status.own
+  pub status-each-flag : Answers status.each-flag
+  pub status-own-bits : Answers status.own-bits
   -- "Reader"
   pub reader-one-piece : Hears reader.one-piece
   pub reader-first-counts : Hears reader.first-counts

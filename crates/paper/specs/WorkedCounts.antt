@@ -2,7 +2,7 @@
 -- that counts are the numbers of the history (`counted`).
 -- Assumes nothing.
 use mathlib.Core.Path.{_≡_}
-use mathlib.Core.List.{List, [], _∷_}
+use mathlib.Core.List.{List}
 use Prim.Native.Nat.{ℕ}
 use lib.ListN.{take}
 use Rattle.paper.specs.Frames.{Channel, cdmuA, cdmuB}
@@ -11,7 +11,7 @@ use Rattle.paper.specs.Acts.{noted}
 use Rattle.paper.specs.Step.{step}
 use Rattle.paper.specs.Runs.{Call, runs}
 use Rattle.paper.specs.History.{history, pollsOn}
-use Rattle.paper.specs.Tables.{bytes}
+use Rattle.paper.specs.WorkedLines.{bytes}
 
 abbrev pub pollOn : Channel → List ℕ
 pollOn cdmuA = bytes "05 0A"

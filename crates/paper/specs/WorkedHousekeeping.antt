@@ -5,7 +5,7 @@
 use mathlib.Core.List.{List, [], _∷_, _++_}
 use Prim.Native.Nat.{ℕ}
 use lib.ListN.{replicate}
-use Rattle.paper.specs.Tables.{Line, line, bytes, upward, _gets_, _gives_, _from_shows_, _lent_, times, ticks, pollsB}
+use Rattle.paper.specs.WorkedLines.{Line, line, bytes, upward, _gets_, _from_shows_, _lent_, times, tickEach, pollsB}
 
 -- a sample of zeros
 abbrev zeros : (s width : ℕ) → List Line
@@ -31,7 +31,7 @@ every-field =
     ++ zeros 0x0B 512
     ++ "02 0A 0032 0000 000C" gets 0
     ∷ []
-    ++ ticks (replicate 451 0x7FF)
+    ++ tickEach (replicate 451 0x7FF)
     -- six of housekeeping
     ++ times 6 ("02 0A 0016 0000" gets 0 ∷ [])
     -- 12 late broadcasts on A
@@ -52,7 +52,7 @@ every-field =
     -- the 13th broadcast on A, and five ticks
     ∷ "01 0A CCCC 8ABC 5D 6F" gets 0
     ∷ []
-    ++ ticks (1 ∷ 2 ∷ 3 ∷ 4 ∷ 5 ∷ [])
+    ++ tickEach (1 ∷ 2 ∷ 3 ∷ 4 ∷ 5 ∷ [])
     -- the 15th accepted command on A, the 19th in all
     ++ "02 0A 0016 F0E5" gets 0
     ∷ []
@@ -66,8 +66,8 @@ every-field =
     ++ bytes "9999")
 
 -- before any frame 07, and before anything else
-abbrev pub fresh : List Line
-fresh =
+abbrev pub from-fresh : List Line
+from-fresh =
     "02 0B 0016 1234" gets 0
     ∷ []
     ++ pollsB 0xA 0 0 1
@@ -81,8 +81,8 @@ fresh =
 
 -- After a refusal with 2, 3, 4 and 7, each on another channel than the next command: its packet count and the error count are raised and
 -- the code is the reply; sequence and code stay those of the last accepted command. An accepted command leaves count and code.
-abbrev pub errors : List Line
-errors =
+abbrev pub after-errors : List Line
+after-errors =
     "02 0B 0099 0012" gets 2
     ∷ "02 0A 0016 0181" gets 0
     ∷ "05 0A" from 24 shows "0001 0000 0000 0001 0001 0000 0000 01 02 81 16"

@@ -5,7 +5,7 @@ use mathlib.Core.List.{List, [], _∷_, _++_}
 use Prim.Native.Nat.{ℕ}
 use Prim.Native.String.{String}
 use lib.ListN.{replicate}
-use Rattle.paper.specs.Tables.{Line, bytes, upward, packed, _gets_, _gives_, _from_shows_, times, ticks, pollsA}
+use Rattle.paper.specs.WorkedLines.{Line, bytes, upward, packed, _gets_, _gives_, _from_shows_, times, tickEach, pollsA}
 
 -- a record as it is sent: opening, SSP time and mode, 512 readings, closing (2) and fill (776 to 826: 50)
 abbrev record-of : String → List ℕ → List ℕ
@@ -14,17 +14,17 @@ record-of head readings = bytes "8888" ++ bytes head ++ packed readings ++ repli
 -- ---- which readings are above
 
 -- 80 is not above, 81 is; 2047 is the greatest reading, 2048 and 4095 are below zero; two of the last five do not declare impact, three do
-abbrev pub above : List Line
-above =
+abbrev pub above-or-not : List Line
+above-or-not =
     "02 0A 0032 0000 000C" gets 0
     ∷ []
-    ++ ticks (80 ∷ 80 ∷ 80 ∷ 80 ∷ 80 ∷ [])
+    ++ tickEach (80 ∷ 80 ∷ 80 ∷ 80 ∷ 80 ∷ [])
     ++ "06 0A 00 00" gives "1800"
     ∷ []
-    ++ ticks (2048 ∷ 2048 ∷ 2048 ∷ 4095 ∷ 4095 ∷ 4095 ∷ [])
+    ++ tickEach (2048 ∷ 2048 ∷ 2048 ∷ 4095 ∷ 4095 ∷ 4095 ∷ [])
     ++ "06 0A 00 00" gives "1800"
     ∷ []
-    ++ ticks (81 ∷ 2047 ∷ 0 ∷ 0 ∷ 0 ∷ 81 ∷ 0 ∷ 81 ∷ 0 ∷ [])
+    ++ tickEach (81 ∷ 2047 ∷ 0 ∷ 0 ∷ 0 ∷ 81 ∷ 0 ∷ 81 ∷ 0 ∷ [])
     ++ "06 0A 00 00" gives "1800" ∷ "03 0051" gets 0 ∷ "06 0A 00 00" gives "9800" ∷ []
 
 -- "In mode 4": elsewhere a reading is neither kept nor compared
@@ -32,11 +32,11 @@ abbrev pub elsewhere : List Line
 elsewhere =
     "02 0A 0032 0000 0003" gets 0
     ∷ []
-    ++ ticks (2047 ∷ 2047 ∷ 2047 ∷ 2047 ∷ 2047 ∷ [])
+    ++ tickEach (2047 ∷ 2047 ∷ 2047 ∷ 2047 ∷ 2047 ∷ [])
     ++ "06 0A 00 00" gives "1600"
     ∷ "02 0A 0032 0000 0005" gets 0
     ∷ []
-    ++ ticks (2047 ∷ 2047 ∷ 2047 ∷ 2047 ∷ 2047 ∷ []) ++ "06 0A 00 00" gives "0A00" ∷ []
+    ++ tickEach (2047 ∷ 2047 ∷ 2047 ∷ 2047 ∷ 2047 ∷ []) ++ "06 0A 00 00" gives "0A00" ∷ []
 
 -- ---- a whole run, unlocked
 
@@ -47,25 +47,25 @@ elsewhere =
 -- record, nor counted for m. So the 448th further tick comes 348 ticks (15C) after the broadcast, and completes the record: 41 places are
 -- missing. Mode 5 is entered then, from mode 4; its reference second is 1000, that of the impact: 1179 (126C) does not end it, 1180
 -- (1270) does.
-abbrev pub unlocked : List Line
-unlocked =
+abbrev pub unlocked-run : List Line
+unlocked-run =
     "02 0A 0032 0000 0004" gets 0
     ∷ []
-    ++ ticks (0x11 ∷ 0x12 ∷ 0x7FF ∷ 0x7FF ∷ [])
+    ++ tickEach (0x11 ∷ 0x12 ∷ 0x7FF ∷ 0x7FF ∷ [])
     ++ "02 0A 0032 0000 0003" gets 0
     ∷ "01 0A 0FA0 02BC 00 00" gets 0
     ∷ []
-    ++ ticks (upward 1 20 ++ (81 ∷ 82 ∷ []))
+    ++ tickEach (upward 1 20 ++ (81 ∷ 82 ∷ []))
     ++ "06 0A 00 00" gives "0800"
     ∷ "03 0053" gets 0
     ∷ "06 0A 00 00" gives "8800"
     ∷ []
-    ++ ticks (upward 0x200 100)
+    ++ tickEach (upward 0x200 100)
     ++ "01 0A 1130 7FFF 00 00" gets 0
     ∷ "06 0A 00 00" gives "8800"
     ∷ "02 0A 0013 0000 0E74" gets 0
     ∷ []
-    ++ ticks (upward 0x264 347)
+    ++ tickEach (upward 0x264 347)
     ++ "06 0A 00 00" gives "9800"
     ∷ "05 0A" gets 9
     ∷ []
@@ -101,23 +101,23 @@ unlocked =
 -- impact. The record holds the last 512 readings: 61 quiet ones, three, and 448. The mode stays, m being 964 (3C4). 449 more readings that
 -- are above declare nothing. Meanwhile "m .. stays at 1023": it is 1022 (3FE), 1023 (3FF), and 1023; neither a refused tick nor a late
 -- broadcast changes it.
-abbrev pub locked : List Line
-locked =
+abbrev pub locked-run : List Line
+locked-run =
     "01 0A FFFC 7FFF 00 00" gets 0
     ∷ "02 0A 0032 0000 000C" gets 0
     ∷ []
-    ++ ticks (upward 0x800 513 ++ (0x7FF ∷ 0x051 ∷ []))
+    ++ tickEach (upward 0x800 513 ++ (0x7FF ∷ 0x051 ∷ []))
     ++ "06 0A 00 00" gives "1800"
     ∷ "03 07FE" gets 0
     ∷ "06 0A 00 00" gives "9800"
     ∷ []
-    ++ ticks (upward 0x300 447)
+    ++ tickEach (upward 0x300 447)
     ++ "05 0A" gets 9
     ∷ "03 04BF" gets 0
     ∷ "06 0A 00 00" gives "9800"
     ∷ []
     ++ pollsA 2 0 0 7 (record-of "FFFE04 0C" (upward 0x9C4 61 ++ (0x7FF ∷ 0x051 ∷ 0x7FE ∷ []) ++ upward 0x300 448))
-    ++ ticks (upward 0x300 58)
+    ++ tickEach (upward 0x300 58)
     ++ "02 0A 0016 0000" gets 0
     ∷ "05 0A" from 10 shows "FFFFFE 0C"
     ∷ "03 1000" gets 4
@@ -129,7 +129,7 @@ locked =
     ∷ "02 0A 0016 0000" gets 0
     ∷ "05 0A" from 10 shows "FFFFFF 0C"
     ∷ []
-    ++ ticks (upward 0x300 389)
+    ++ tickEach (upward 0x300 389)
     ++ "06 0A 00 00" gives "8800"
     ∷ "05 0A" gets 9
     ∷ []
@@ -137,8 +137,8 @@ locked =
 -- ---- the next entry to mode 4
 
 -- "Entering mode 4 empties window .. and clears the impact flag", by command and by a broadcast: two readings above before it do not count
-abbrev pub emptied : List Line
-emptied =
+abbrev pub entries-to-4 : List Line
+entries-to-4 =
     "02 0A 0032 0000 0004" gets 0
     ∷ "03 07FF" gets 0
     ∷ "03 07FF" gets 0
@@ -167,12 +167,12 @@ abbrev pub abandoned : List Line
 abandoned =
     "02 0A 0032 0000 0004" gets 0
     ∷ []
-    ++ ticks (0x11 ∷ 0x7FF ∷ 0x7FF ∷ 0x7FF ∷ [])
+    ++ tickEach (0x11 ∷ 0x7FF ∷ 0x7FF ∷ 0x7FF ∷ [])
     ++ "06 0A 00 00" gives "9800"
     ∷ "02 0A 0032 0000 0004" gets 0
     ∷ "06 0A 00 00" gives "0800"
     ∷ []
-    ++ ticks (0x12 ∷ 0x7FF ∷ 0x7FF ∷ [])
+    ++ tickEach (0x12 ∷ 0x7FF ∷ 0x7FF ∷ [])
     ++ "06 0A 00 00" gives "0800"
     ∷ "03 07FF" gets 0
     ∷ "06 0A 00 00" gives "8800"
@@ -188,7 +188,7 @@ abandoned =
     ∷ "02 0A 0032 0000 0004" gets 0
     ∷ "06 0A 00 00" gives "1800"
     ∷ []
-    ++ ticks (0x21 ∷ 0x7FF ∷ 0x7FF ∷ [])
+    ++ tickEach (0x21 ∷ 0x7FF ∷ 0x7FF ∷ [])
     ++ "06 0A 00 00" gives "1800"
     ∷ "03 07FF" gets 0
     ∷ "06 0A 00 00" gives "9800"

@@ -4,9 +4,8 @@
 -- 13 mode, 14 altitude, 16 spin, 17 phase, 18 time of the last mode change, 21 last mode, 22 altitude at it.
 -- Assumes nothing.
 use mathlib.Core.List.{List, [], _∷_, _++_}
-use Prim.Native.Nat.{ℕ}
 use Prim.Native.String.{String}
-use Rattle.paper.specs.Tables.{Line, _gets_, _gives_, _from_shows_, times, ticks}
+use Rattle.paper.specs.WorkedLines.{Line, _gets_, _gives_, _from_shows_, tickEach}
 
 -- ---- the rule
 
@@ -191,7 +190,7 @@ entries =
     ∷ "02 0A 0016 0000" gets 0
     ∷ "05 0A" from 10 shows "096000 02 8ABC 12 34 096000 01 8ABC"
     ∷ []
-    ++ ticks (0 ∷ 0 ∷ 0 ∷ [])
+    ++ tickEach (0 ∷ 0 ∷ 0 ∷ [])
     ++ "02 0A 0032 0000 000B" gets 0
     ∷ "02 0A 0016 0000" gets 0
     ∷ "05 0A" from 10 shows "096003 0B 8ABC 12 34 096003 02 8ABC"
@@ -222,8 +221,8 @@ entries =
 
 -- Ticks before the first broadcast count; a broadcast sets m to 0, of the same second too; a refused tick does not count, nor does a
 -- refused broadcast. (That m stays at 1023 is part of the locked run of WorkedImpact.)
-abbrev pub m : List Line
-m =
+abbrev pub m-counts : List Line
+m-counts =
     "03 0007" gets 0
     ∷ "03 0007" gets 0
     ∷ "02 0A 0016 0000" gets 0

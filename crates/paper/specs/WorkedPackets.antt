@@ -5,12 +5,12 @@ use mathlib.Core.List.{List, [], _∷_, _++_}
 use Prim.Native.Nat.{ℕ, zero, suc, _+_}
 use lib.ListN.{replicate}
 use Rattle.wire.specs.Wire.{bytes16}
-use Rattle.paper.specs.Tables.{Line, line, bytes, upward, packed, _gets_, _gives_, _from_shows_, times, ticks, pollsA, pollsB}
+use Rattle.paper.specs.WorkedLines.{Line, line, bytes, upward, packed, _gets_, _from_shows_, times, tickEach, pollsA, pollsB}
 
 -- n samples of stream s, of so many bytes each, all accepted: the bytes count up from k; a tick follows each
-abbrev samples : (s width k n : ℕ) → List Line
-samples s width k zero = []
-samples s width k (suc n) = line (0x04 ∷ s ∷ upward k width) 0 [] ∷ "03 0000" gets 0 ∷ samples s width (k + width) n
+abbrev samplesOf : (s width k n : ℕ) → List Line
+samplesOf s width k zero = []
+samplesOf s width k (suc n) = line (0x04 ∷ s ∷ upward k width) 0 [] ∷ "03 0000" gets 0 ∷ samplesOf s width (k + width) n
 
 -- DEN samples: 12-bit values that count up from k
 abbrev densities : (k n : ℕ) → List Line
@@ -26,34 +26,34 @@ abbrev pub interleaved : List Line
 interleaved =
     "01 0A 0FA0 7FFF 00 00" gets 0
     ∷ []
-    ++ ticks (0 ∷ 0 ∷ 0 ∷ 0 ∷ 0 ∷ [])
-    ++ samples 0x04 3 0x00 1
-    ++ samples 0x06 3 0x80 1
-    ++ samples 0x09 6 0x10 1
+    ++ tickEach (0 ∷ 0 ∷ 0 ∷ 0 ∷ 0 ∷ [])
+    ++ samplesOf 0x04 3 0x00 1
+    ++ samplesOf 0x06 3 0x80 1
+    ++ samplesOf 0x09 6 0x10 1
     ++ densities 0x7C0 1
     ++ "01 0A 0FA4 7FFF 00 00" gets 0
     ∷ "02 0A 0032 0000 000B" gets 0
     ∷ []
-    ++ samples 0x04 3 0x03 35
+    ++ samplesOf 0x04 3 0x03 35
     ++ pollsA 0x4 0 0 1 (bytes "8888 0FA005 02" ++ upward 0x00 108 ++ bytes "9999 9999")
-    ++ samples 0x06 3 0x83 35
+    ++ samplesOf 0x06 3 0x83 35
     ++ pollsB 0x6 0 0 1 (bytes "8888 0FA006 02" ++ upward 0x80 108 ++ bytes "9999 9999")
-    ++ samples 0x09 6 0x16 17
+    ++ samplesOf 0x09 6 0x16 17
     ++ pollsA 0x9 1 0 1 (bytes "8888 0FA007 02" ++ upward 0x10 108 ++ bytes "9999 9999")
     ++ densities 0x7C1 71
     ++ pollsA 0x5 2 0 1 (bytes "8888 0FA008 02" ++ packed (upward 0x7C0 72) ++ bytes "9999 9999")
     -- the next API-V packet: second 1002 (0FA800), mode 3, locked
     ++ "01 0A 0FA8 7FFF 00 00" gets 0
     ∷ []
-    ++ samples 0x04 3 0x00 36
+    ++ samplesOf 0x04 3 0x00 36
     ++ pollsB 0x4 1 1 1 (bytes "8888 0FA800 0B" ++ upward 0x00 108 ++ bytes "9999 9999")
     ++ "05 0A" gets 9
     ∷ []
 
 -- ACC-E: one sample of 512 bytes is a packet of 520, in five pieces (590, so 70 bytes of fill); "the high nibble is 1 for ACC-E": 15 in mode 5,
 -- 1D locked. Pieces take counts 0 to 4, then 5 to 9; each channel has its own telemetry count.
-abbrev pub acc-e : List Line
-acc-e =
+abbrev pub acc-e-packets : List Line
+acc-e-packets =
     "01 0A 0963 7FFF 00 00" gets 0
     ∷ "02 0A 0032 0000 0005" gets 0
     ∷ line (0x04 ∷ 0x0B ∷ (upward 0 256 ++ upward 0 256)) 0 []
@@ -70,11 +70,11 @@ acc-e =
 
 -- "all pieces or none": with 44 packets waiting an ACC-E sample gets 7, with 43 it is taken; "A closing sample without room gets 7 and isn't
 -- kept": with 48 waiting the 36th API-V sample gets 7, with 47 it is taken, and is the 36th
-abbrev pub room : List Line
-room =
+abbrev pub short-of-room : List Line
+short-of-room =
     "02 0A 0032 0000 0005" gets 0
     ∷ []
-    ++ samples 0x04 3 0x00 35
+    ++ samplesOf 0x04 3 0x00 35
     ++ times 44 ("02 0A 0016 0000" gets 0 ∷ [])
     ++ line (0x04 ∷ 0x0B ∷ replicate 512 0x11) 7 []
     ∷ "05 0A" from 4 shows "0077 000A"
@@ -101,8 +101,8 @@ abbrev pub clears : List Line
 clears =
     "02 0A 0032 0000 0005" gets 0
     ∷ []
-    ++ samples 0x04 3 0x00 35
-    ++ samples 0x09 6 0x00 17
+    ++ samplesOf 0x04 3 0x00 35
+    ++ samplesOf 0x09 6 0x00 17
     ++ "02 0A 0016 0000" gets 0
     ∷ line (0x04 ∷ 0x0B ∷ replicate 512 0x11) 0 []
     ∷ "02 0A 0016 0000" gets 0
@@ -125,7 +125,7 @@ clears =
     ++ "05 0A" from 0 shows "0F94 C007 0077 002A"
     ∷ "05 0A" gets 9
     ∷ []
-    ++ samples 0x04 3 0xC3 35
+    ++ samplesOf 0x04 3 0xC3 35
     ++ pollsA 0x4 8 0 1 (bytes "8888 000034 05" ++ upward 0xC0 108 ++ bytes "9999 9999")
 
 -- "slots are free again": 48 housekeeping packets are cleared, two of them polled before, and 48 more find room; each of them took a count

@@ -5,7 +5,7 @@ use mathlib.Core.List.{List, [], _∷_, _++_}
 use Prim.Native.Nat.{ℕ}
 use Prim.Native.String.{String}
 use lib.ListN.{replicate}
-use Rattle.paper.specs.Tables.{Line, line, bytes, upward, _gets_, _lent_}
+use Rattle.paper.specs.WorkedLines.{Line, line, bytes, upward, _gets_, _lent_}
 
 -- a packet with what stands before its 118 bytes; one that gets a reply; one with which a datastream packet is handed out
 infix 80 _with_replies_
@@ -23,26 +23,26 @@ tag brings body hands packet = line (bytes "0F94 C000 0077" ++ bytes tag ++ body
 -- ---- streams of one piece
 
 -- an API-V packet of 116 bytes, and its piece; a housekeeping packet of 118 is its piece
-abbrev api-v : List ℕ
-api-v = bytes "8888" ++ upward 1 112 ++ bytes "9999"
+abbrev api-v-packet : List ℕ
+api-v-packet = bytes "8888" ++ upward 1 112 ++ bytes "9999"
 
-abbrev piece : List ℕ
-piece = api-v ++ bytes "9999"
+abbrev api-v-piece : List ℕ
+api-v-piece = api-v-packet ++ bytes "9999"
 
-abbrev hk : List ℕ
-hk = bytes "8888" ++ upward 1 114 ++ bytes "9999"
+abbrev hk-packet : List ℕ
+hk-packet = bytes "8888" ++ upward 1 114 ++ bytes "9999"
 
 -- Handed out once, at its listed length; then a repeat, on the other channel too. "finished but opening, closing or fill bytes are wrong",
 -- one byte each; the record has moved on, so the same count is then a repeat, and the next is handed out.
 abbrev pub one-piece : List Line
 one-piece =
-    "0004" brings piece hands api-v
-    ∷ "0004" brings piece replies 22
-    ∷ "0FB4 FFFF 0077 0004" with piece replies 22
+    "0004" brings api-v-piece hands api-v-packet
+    ∷ "0004" brings api-v-piece replies 22
+    ∷ "0FB4 FFFF 0077 0004" with api-v-piece replies 22
     -- opening
     ∷ "0014" brings (bytes "8788" ++ upward 1 112 ++ bytes "9999 9999") replies 23
-    ∷ "0014" brings piece replies 22
-    ∷ "0024" brings piece hands api-v
+    ∷ "0014" brings api-v-piece replies 22
+    ∷ "0024" brings api-v-piece hands api-v-packet
     ∷ "0034" brings (bytes "8889" ++ upward 1 112 ++ bytes "9999 9999") replies 23
     -- closing
     ∷ "0044" brings (bytes "8888" ++ upward 1 112 ++ bytes "9899 9999") replies 23
@@ -50,32 +50,32 @@ one-piece =
     -- fill
     ∷ "0064" brings (bytes "8888" ++ upward 1 112 ++ bytes "9999 9899") replies 23
     ∷ "0074" brings (bytes "8888" ++ upward 1 112 ++ bytes "9999 999A") replies 23
-    ∷ "0074" brings piece replies 22
+    ∷ "0074" brings api-v-piece replies 22
     -- time, mode and data are not judged
     ∷ "0084" brings (bytes "8888" ++ replicate 112 0x99 ++ bytes "9999 9999") hands (bytes "8888" ++ replicate 112 0x99 ++ bytes "9999")
     -- pieces 9 to 11 are missing
-    ∷ "00C4" brings piece hands api-v
+    ∷ "00C4" brings api-v-piece hands api-v-packet
     -- housekeeping has no fill, and a record of its own
-    ∷ "000A" brings hk hands hk
+    ∷ "000A" brings hk-packet hands hk-packet
     ∷ "001A" brings (bytes "8888" ++ upward 1 114 ++ bytes "9998") replies 23
     ∷ "002A" brings (bytes "8888" ++ upward 1 114 ++ bytes "9899") replies 23
-    ∷ "003A" brings hk hands hk
-    ∷ "00D4" brings piece hands api-v
+    ∷ "003A" brings hk-packet hands hk-packet
+    ∷ "00D4" brings api-v-piece hands api-v-packet
     ∷ []
 
 -- "A fresh record has last count 4095": a first count of 4095 is a repeat; 4094 is not; 0 follows 4095
 abbrev pub first-counts : List Line
 first-counts =
-    "FFF2" brings piece replies 22
-    ∷ "FFF4" brings piece replies 22
-    ∷ "FFFA" brings hk replies 22
-    ∷ "FFFB" brings piece replies 22
-    ∷ "FFE4" brings piece hands api-v
-    ∷ "FFF4" brings piece hands api-v
-    ∷ "0004" brings piece hands api-v
-    ∷ "0005" brings piece hands api-v
-    ∷ "0016" brings piece hands api-v
-    ∷ "0FF9" brings piece hands api-v
+    "FFF2" brings api-v-piece replies 22
+    ∷ "FFF4" brings api-v-piece replies 22
+    ∷ "FFFA" brings hk-packet replies 22
+    ∷ "FFFB" brings api-v-piece replies 22
+    ∷ "FFE4" brings api-v-piece hands api-v-packet
+    ∷ "FFF4" brings api-v-piece hands api-v-packet
+    ∷ "0004" brings api-v-piece hands api-v-packet
+    ∷ "0005" brings api-v-piece hands api-v-packet
+    ∷ "0016" brings api-v-piece hands api-v-packet
+    ∷ "0FF9" brings api-v-piece hands api-v-packet
     ∷ []
 
 -- ---- "20 not 126 bytes, or a wrong ID, length or top two sequence bits; 21 stream not carried"; "24 output under 776"
@@ -85,36 +85,36 @@ abbrev pub refusals : List Line
 refusals =
     "" gets 20
     ∷ "0F94 C000 0077 0004" gets 20
-    ∷ "0004" brings (api-v ++ bytes "99") replies 20
-    ∷ "0004" brings (piece ++ bytes "99") replies 20
-    ∷ "0F95 C000 0077 0004" with piece replies 20
-    ∷ "0F84 C000 0077 0004" with piece replies 20
-    ∷ "0FB5 C000 0077 0004" with piece replies 20
-    ∷ "1F94 C000 0077 0004" with piece replies 20
-    ∷ "0F94 C000 0076 0004" with piece replies 20
-    ∷ "0F94 C000 0078 0004" with piece replies 20
-    ∷ "0F94 C000 0177 0004" with piece replies 20
-    ∷ "0F94 8000 0077 0004" with piece replies 20
-    ∷ "0F94 7FFF 0077 0004" with piece replies 20
-    ∷ "0F94 0000 0077 0000" with piece replies 20
-    ∷ "0000" brings piece replies 21
-    ∷ "0001" brings piece replies 21
-    ∷ "0003" brings piece replies 21
-    ∷ "0007" brings piece replies 21
-    ∷ "0008" brings piece replies 21
-    ∷ "000C" brings piece replies 21
-    ∷ "000D" brings piece replies 21
-    ∷ "000E" brings piece replies 21
-    ∷ "FFFF" brings piece replies 21
+    ∷ "0004" brings (api-v-packet ++ bytes "99") replies 20
+    ∷ "0004" brings (api-v-piece ++ bytes "99") replies 20
+    ∷ "0F95 C000 0077 0004" with api-v-piece replies 20
+    ∷ "0F84 C000 0077 0004" with api-v-piece replies 20
+    ∷ "0FB5 C000 0077 0004" with api-v-piece replies 20
+    ∷ "1F94 C000 0077 0004" with api-v-piece replies 20
+    ∷ "0F94 C000 0076 0004" with api-v-piece replies 20
+    ∷ "0F94 C000 0078 0004" with api-v-piece replies 20
+    ∷ "0F94 C000 0177 0004" with api-v-piece replies 20
+    ∷ "0F94 8000 0077 0004" with api-v-piece replies 20
+    ∷ "0F94 7FFF 0077 0004" with api-v-piece replies 20
+    ∷ "0F94 0000 0077 0000" with api-v-piece replies 20
+    ∷ "0000" brings api-v-piece replies 21
+    ∷ "0001" brings api-v-piece replies 21
+    ∷ "0003" brings api-v-piece replies 21
+    ∷ "0007" brings api-v-piece replies 21
+    ∷ "0008" brings api-v-piece replies 21
+    ∷ "000C" brings api-v-piece replies 21
+    ∷ "000D" brings api-v-piece replies 21
+    ∷ "000E" brings api-v-piece replies 21
+    ∷ "FFFF" brings api-v-piece replies 21
     ∷ "" gets 24 lent 775
     ∷ "" gets 20 lent 776
-    ∷ "0F95 C000 0077 0004" with piece replies 24 lent 775
-    ∷ "0000" brings piece replies 24 lent 775
-    ∷ "0004" brings piece replies 24 lent 775
-    ∷ "0FB4 FFFF 0077 0014" with piece replies 24 lent 0
-    ∷ "0004" brings piece hands api-v lent 776
-    ∷ "0004" brings piece replies 24 lent 775
-    ∷ "0004" brings piece replies 22
+    ∷ "0F95 C000 0077 0004" with api-v-piece replies 24 lent 775
+    ∷ "0000" brings api-v-piece replies 24 lent 775
+    ∷ "0004" brings api-v-piece replies 24 lent 775
+    ∷ "0FB4 FFFF 0077 0014" with api-v-piece replies 24 lent 0
+    ∷ "0004" brings api-v-piece hands api-v-packet lent 776
+    ∷ "0004" brings api-v-piece replies 24 lent 775
+    ∷ "0004" brings api-v-piece replies 22
     ∷ []
 
 -- ---- streams of more pieces
@@ -135,8 +135,8 @@ p3 = bytes "8888" ++ replicate 116 0x13
 abbrev p4 : List ℕ
 p4 = replicate 46 0x14 ++ bytes "9999" ++ replicate 70 0x99
 
-abbrev whole : List ℕ
-whole = p0 ++ p1 ++ p2 ++ p3 ++ (replicate 46 0x14 ++ bytes "9999")
+abbrev acc-e-packet : List ℕ
+acc-e-packet = p0 ++ p1 ++ p2 ++ p3 ++ (replicate 46 0x14 ++ bytes "9999")
 
 -- Whole, with another stream's packets between; whole with repeats; with piece 2 missing; with pieces 2 to 6 missing, after which the place
 -- fits; a piece that comes once more, but not as the next arrival: nothing is handed out.
@@ -144,11 +144,11 @@ abbrev pub five-pieces : List Line
 five-pieces =
     "000B" brings p0 replies 0
     ∷ "001B" brings p1 replies 0
-    ∷ "0004" brings piece hands api-v
+    ∷ "0004" brings api-v-piece hands api-v-packet
     ∷ "002B" brings p2 replies 0
-    ∷ "0024" brings piece hands api-v
+    ∷ "0024" brings api-v-piece hands api-v-packet
     ∷ "003B" brings p3 replies 0
-    ∷ "004B" brings p4 hands whole
+    ∷ "004B" brings p4 hands acc-e-packet
     ∷ "004B" brings p4 replies 22
     -- 5 to 9, with repeats
     ∷ "005B" brings p0 replies 0
@@ -158,7 +158,7 @@ five-pieces =
     ∷ "007B" brings p2 replies 0
     ∷ "008B" brings p3 replies 0
     ∷ "008B" brings p3 replies 22
-    ∷ "009B" brings p4 hands whole
+    ∷ "009B" brings p4 hands acc-e-packet
     -- 10 to 14, without 12
     ∷ "00AB" brings p0 replies 0
     ∷ "00BB" brings p1 replies 0
@@ -175,7 +175,7 @@ five-pieces =
     ∷ "01AB" brings p1 replies 0
     ∷ "01BB" brings p2 replies 0
     ∷ "01CB" brings p3 replies 0
-    ∷ "01DB" brings p4 hands whole
+    ∷ "01DB" brings p4 hands acc-e-packet
     -- 30, 31, 32, 31, 33, 34
     ∷ "01EB" brings p0 replies 0
     ∷ "01FB" brings p1 replies 0
@@ -209,7 +209,7 @@ five-wrong =
     ∷ "01FB" brings p1 replies 0
     ∷ "020B" brings p2 replies 0
     ∷ "021B" brings p3 replies 0
-    ∷ "022B" brings p4 hands whole
+    ∷ "022B" brings p4 hands acc-e-packet
     ∷ []
 
 -- ACC-I: 776 bytes in seven pieces, 50 bytes of fill

@@ -4,7 +4,7 @@
 use mathlib.Core.List.{List, [], _∷_, _++_}
 use Prim.Native.Nat.{ℕ}
 use lib.ListN.{replicate}
-use Rattle.paper.specs.Tables.{Line, line, _gets_, _gives_, _from_shows_, _lent_, times, ticks}
+use Rattle.paper.specs.WorkedLines.{Line, line, _gets_, _gives_, _from_shows_, _lent_, times}
 
 -- ---- "1: empty, unknown kind or channel, or wrong size above"
 
@@ -63,8 +63,8 @@ channels =
 
 -- ---- "2: command id .. not carried"; "3: wrong parameter .. length"; "4: value out of range"
 
-abbrev pub commands : List Line
-commands =
+abbrev pub ids-and-lengths : List Line
+ids-and-lengths =
     -- ids beside 0013, 0016 and 0032, and those that share a byte with them; 2 before 3
     "02 0A 0000 0000" gets 2
     ∷ "02 0A 0012 0000 0000" gets 2
@@ -146,8 +146,8 @@ streams =
     ∷ []
 
 -- an ACC-E sample
-abbrev acc-e : ℕ → Line
-acc-e n = line (0x04 ∷ 0x0B ∷ replicate 512 0x77) n []
+abbrev acc-e-sample : ℕ → Line
+acc-e-sample n = line (0x04 ∷ 0x0B ∷ replicate 512 0x77) n []
 
 -- "DEN comes as two bytes ..; the others come as the 3, 6 or 512 bytes that are stored": in mode 5, which takes them all, then in
 -- mode 0, which takes none (3 before 6)
@@ -184,7 +184,7 @@ lengths =
 -- the replies in one mode to a sample of API-V, DEN, PER, TIL and ACC-E
 abbrev taking : (v d p t e : ℕ) → List Line
 taking v d p t e =
-    "04 04 010203" gets v ∷ "04 05 0FFF" gets d ∷ "04 06 010203" gets p ∷ "04 09 010203040506" gets t ∷ acc-e e ∷ []
+    "04 04 010203" gets v ∷ "04 05 0FFF" gets d ∷ "04 06 010203" gets p ∷ "04 09 010203040506" gets t ∷ acc-e-sample e ∷ []
 
 -- "B is taken in mode 5, the others in 1 to 6": set mode 0 to 7, then 8 to 15, locked in the same modes
 abbrev pub modes : List Line
@@ -230,8 +230,8 @@ values =
 -- ---- "5: broadcast seconds below the last accepted"
 
 -- seconds 600 (words 0960 to 0963), then 599, 600 again, and 0; a refused one is not the last accepted
-abbrev pub late : List Line
-late =
+abbrev pub late-broadcasts : List Line
+late-broadcasts =
     "01 0A 0962 02BD 00 00" gets 0
     ∷ "01 0A 095F 02BD 00 00" gets 5
     ∷ "01 0B 095C 02BC 00 00" gets 5
@@ -270,8 +270,8 @@ rooms =
 -- ---- "7: too few free queue slots"; "9: poll, queue empty"
 
 -- "the queue has 48 slots": 48 housekeeping packets wait, or 47; 3 before 7, 4 before 7, 6 before 7
-abbrev pub slots : List Line
-slots =
+abbrev pub full-queue : List Line
+full-queue =
     "05 0A" gets 9
     ∷ (times 71 ("04 05 0123" gets 0 ∷ [])
     ++ (times 47 ("02 0A 0016 0000" gets 0 ∷ [])

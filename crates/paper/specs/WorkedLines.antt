@@ -89,8 +89,8 @@ times zero ls = []
 times (suc n) ls = ls ++ times n ls
 
 -- a tick for each reading, all accepted
-abbrev pub ticks : List ℕ → List Line
-ticks rs = map (λ r. line (0x03 ∷ bytes16 r) 0 []) rs
+abbrev pub tickEach : List ℕ → List Line
+tickEach rs = map (λ r. line (0x03 ∷ bytes16 r) 0 []) rs
 
 -- The polls on a channel (its byte and its packet ID) that bring a packet's pieces one after the other: that channel's telemetry counts
 -- go on from n, the stream's counts from k, and each poll shows the next 118 bytes of the packet, which is given with its fill.
@@ -109,11 +109,11 @@ pollsB = polls 0x0B 0x0FB4
 
 -- ---- what a table says
 
-abbrev pub same : List ℕ → List ℕ → Bool
-same [] [] = true
-same [] (y ∷ ys) = false
-same (x ∷ xs) [] = false
-same (x ∷ xs) (y ∷ ys) = eqb x y && same xs ys
+abbrev pub sameBytes : List ℕ → List ℕ → Bool
+sameBytes [] [] = true
+sameBytes [] (y ∷ ys) = false
+sameBytes (x ∷ xs) [] = false
+sameBytes (x ∷ xs) (y ∷ ys) = eqb x y && sameBytes xs ys
 
 -- Of a machine that answers a frame, given with a length of output, and goes on: the numbers of the lines, from n on, to which it
 -- answers otherwise than they say.
@@ -122,7 +122,7 @@ otherwise answer m n [] = []
 otherwise answer m n (l ∷ ls) =
     let o = answer m (l .given) (l .room) in
     let later : List ℕ = otherwise answer (o .2) (suc n) ls in
-    cond (eqb (o .0) (l .reply) && same ((l .part) (o .1)) (l .said)) later (n ∷ later)
+    cond (eqb (o .0) (l .reply) && sameBytes ((l .part) (o .1)) (l .said)) later (n ∷ later)
 
 abbrev pub asController : Controller → List ℕ → ℕ → ℕ × List ℕ × Controller
 asController c f room = let o : Outcome = step c f room in (o .reply, o .out, o .next)
