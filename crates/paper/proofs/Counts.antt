@@ -49,6 +49,7 @@ counts =
       polls-65535 = sequence-word cdmuB 65535;
       polls-65536 = sequence-word cdmuB 65536;
       wraps = (refl, refl, refl, refl);
+      pieces-wrap = (refl, refl);
       sequence-low = refl;
       id-low = refl;
     }

@@ -6,6 +6,7 @@ use mathlib.Core.List.{List}
 use Prim.Native.Nat.{ℕ}
 use lib.ListN.{take}
 use Rattle.paper.specs.Frames.{Channel, cdmuA, cdmuB}
+use Rattle.paper.specs.Queue.{wrap}
 use Rattle.paper.specs.Controller.{start, raised, raised8}
 use Rattle.paper.specs.Acts.{noted}
 use Rattle.paper.specs.Step.{step}
@@ -33,6 +34,8 @@ pub record Counts : Type 0 where
   pub polls-65536 : Begins cdmuB 65536 (bytes "0FB4 C000")
   -- "All counts of 16 bits go from 65535 to 0 on purpose; the error count is 8 bits and wraps too."
   pub wraps : (raised 65534 ≡ 65535) × (raised 65535 ≡ 0) × (raised8 254 ≡ 255) × (raised8 255 ≡ 0)
+  -- "modulo 4096 (ours)": the count after a piece's own
+  pub pieces-wrap : (wrap 4094 ≡ 4095) × (wrap 4095 ≡ 0)
   -- "stores the low bytes of sequence and id": of the ids that are accepted none has a low byte above 32
   pub sequence-low : noted start cdmuA 0x12F6 0x34E5 .tallies .sequence ≡ 0xE5
   pub id-low : noted start cdmuA 0x12F6 0x34E5 .tallies .id ≡ 0xF6
