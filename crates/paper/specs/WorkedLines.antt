@@ -115,14 +115,19 @@ sameBytes [] (y ∷ ys) = false
 sameBytes (x ∷ xs) [] = false
 sameBytes (x ∷ xs) (y ∷ ys) = eqb x y && sameBytes xs ys
 
+-- what is given is of bytes
+abbrev pub areBytes : List ℕ → Bool
+areBytes [] = true
+areBytes (x ∷ xs) = ltb x 256 && areBytes xs
+
 -- Of a machine that answers a frame, given with a length of output, and goes on: the numbers of the lines, from n on, to which it
--- answers otherwise than they say.
+-- answers otherwise than they say (or that give no bytes).
 abbrev pub otherwise : {M : Type 0} → (M → List ℕ → ℕ → ℕ × List ℕ × M) → M → ℕ → List Line → List ℕ
 otherwise answer m n [] = []
 otherwise answer m n (l ∷ ls) =
     let o = answer m (l .given) (l .room) in
     let later : List ℕ = otherwise answer (o .2) (suc n) ls in
-    cond (eqb (o .0) (l .reply) && sameBytes ((l .part) (o .1)) (l .said)) later (n ∷ later)
+    cond (areBytes (l .given) && (eqb (o .0) (l .reply) && sameBytes ((l .part) (o .1)) (l .said))) later (n ∷ later)
 
 abbrev pub asController : Controller → List ℕ → ℕ → ℕ × List ℕ × Controller
 asController c f room = let o : Outcome = step c f room in (o .reply, o .out, o .next)

@@ -112,7 +112,7 @@ clears =
     ∷ "02 0A 0013 0000 FFFF" gets 4
     ∷ "02 0A 0013 0000 0810" gets 0
     ∷ line (0x04 ∷ 0x09 ∷ upward 102 6) 0 []
-    ∷ "04 04 C0C1C2" gets 0
+    ∷ "04 04 808182" gets 0
     ∷ "05 0A" from 0 shows "0F94 C000 0077 000A"
     ∷ "05 0B" from 0 shows "0FB4 C000 0077 001A"
     ∷ []
@@ -125,8 +125,8 @@ clears =
     ++ "05 0A" from 0 shows "0F94 C007 0077 002A"
     ∷ "05 0A" gets 9
     ∷ []
-    ++ samplesOf 0x04 3 0xC3 35
-    ++ pollsA 0x4 8 0 1 (bytes "8888 000034 05" ++ upward 0xC0 108 ++ bytes "9999 9999")
+    ++ samplesOf 0x04 3 0x83 35
+    ++ pollsA 0x4 8 0 1 (bytes "8888 000034 05" ++ upward 0x80 108 ++ bytes "9999 9999")
 
 -- "slots are free again": 48 housekeeping packets are cleared, two of them polled before, and 48 more find room; each of them took a count
 abbrev pub clears-all : List Line
