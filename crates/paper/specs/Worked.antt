@@ -4,7 +4,8 @@ use mathlib.Core.Path.{_≡_}
 use mathlib.Core.List.{[], _∷_, map}
 use lib.IntN.{pos, negsuc}
 use Rattle.paper.specs.Impact.{signed}
-use Rattle.paper.specs.WorkedLines.{Answers, Hears}
+use Rattle.paper.specs.Streams.{listed}
+use Rattle.paper.specs.WorkedLines.{upward, Answers, Hears}
 use Rattle.paper.specs.WorkedReplies as replies
 use Rattle.paper.specs.WorkedModes as modes
 use Rattle.paper.specs.WorkedImpact as impact
@@ -26,6 +27,7 @@ pub record Worked : Type 0 where
   pub replies-late-broadcasts : Answers replies.late-broadcasts
   pub replies-rooms : Answers replies.rooms
   pub replies-full-queue : Answers replies.full-queue
+  pub replies-changes : replies.changes ≡ replies.changes-said
   -- "Time and mode"
   pub modes-descent : Answers modes.descent
   pub modes-heights : Answers modes.heights
@@ -51,7 +53,10 @@ pub record Worked : Type 0 where
   pub impact-locked-run : Answers impact.locked-run
   pub impact-entries-to-4 : Answers impact.entries-to-4
   pub impact-abandoned : Answers impact.abandoned
-  -- "Streams and packets"
+  -- "Streams and packets"; the listed length of streams 0 to F, 0 where a stream is not carried
+  pub packets-listed :
+      map listed (upward 0 16)
+      ≡ 0 ∷ 0 ∷ 776 ∷ 0 ∷ 116 ∷ 116 ∷ 116 ∷ 0 ∷ 0 ∷ 116 ∷ 118 ∷ 520 ∷ 0 ∷ 0 ∷ 0 ∷ 0 ∷ []
   pub packets-interleaved : Answers packets.interleaved
   pub packets-acc-e-packets : Answers packets.acc-e-packets
   pub packets-short-of-room : Answers packets.short-of-room

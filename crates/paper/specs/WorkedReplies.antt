@@ -1,10 +1,13 @@
 -- Worked examples of document 01, "Frames" and "What the controller replies": sizes, ids, lengths, streams, modes and values, and which
 -- reply comes where two apply.
 -- Assumes nothing.
-use mathlib.Core.List.{List, [], _∷_, _++_}
+use mathlib.Core.Bool.{cond}
+use mathlib.Core.List.{List, [], _∷_, _++_, map}
 use Prim.Native.Nat.{ℕ}
 use lib.ListN.{replicate}
-use Rattle.paper.specs.WorkedLines.{Line, line, _gets_, _gives_, _from_shows_, _lent_, times}
+use Rattle.paper.specs.Frames.{cdmuA, cdmuB, Frame, broadcast, command, tick, sample, poll, status, analogue, faulty}
+use Rattle.paper.specs.Step.{changesListed}
+use Rattle.paper.specs.WorkedLines.{Line, line, upward, _gets_, _gives_, _from_shows_, _lent_, times}
 
 -- ---- "1: empty, unknown kind or channel, or wrong size above"
 
@@ -292,3 +295,29 @@ full-queue =
     ∷ []
     ++ times 48 ("05 0A" from 4 shows "0077" ∷ [])
     ++ ("05 0A" gets 9 ∷ "05 0B" gets 9 ∷ []))))
+
+-- ---- "Every other refusal changes nothing."
+
+-- of some reply numbers, those with which a frame that is refused changes something
+abbrev changing : List ℕ → Frame → List ℕ
+changing [] f = []
+changing (n ∷ ns) f =
+    let rest : List ℕ = changing ns f in
+    cond (changesListed n f) (n ∷ rest) rest
+
+-- a frame of each kind, and its numbers among 0 to 25: a broadcast's, a command's, and no others
+abbrev pub changes : List (List ℕ)
+changes =
+    map (changing (upward 0 26))
+    (broadcast cdmuA 0 0 0 0
+    ∷ command cdmuB 0x0016 0 []
+    ∷ tick 0
+    ∷ sample 0x4 []
+    ∷ poll cdmuA
+    ∷ status cdmuB 0 0
+    ∷ analogue []
+    ∷ faulty
+    ∷ [])
+
+abbrev pub changes-said : List (List ℕ)
+changes-said = (5 ∷ []) ∷ (2 ∷ 3 ∷ 4 ∷ 7 ∷ []) ∷ [] ∷ [] ∷ [] ∷ [] ∷ [] ∷ [] ∷ []
