@@ -7,31 +7,33 @@ use lib.ListN.{length, take}
 use borrow.Author.Tests.{eqb-false, ne-eqb}
 use native.Mathlib.Omega.{arith}
 use Rattle.wire.specs.Wire.{bytes16}
-use Rattle.paper.specs.Frames.{Channel, cdmuA, cdmuB, onChannel, frameOf}
+use Rattle.paper.specs.Frames.{Channel, cdmuA, cdmuB, poll, onChannel, frameOf}
 use Rattle.paper.specs.Queue.{Piece}
 use Rattle.paper.specs.Controller.{at, Controller, start}
 use Rattle.paper.specs.Acts.{packetId, noted, shown, shownFrom, answer}
-use Rattle.paper.specs.Step.{reply, refused, replied, step}
+use Rattle.paper.specs.Step.{holds, reply, refused, Outcome, replied, step}
 use Rattle.paper.specs.Runs.{runs}
-use Rattle.paper.specs.WorkedCounts.{pollOn, Begins, Counts}
+use Rattle.paper.specs.WorkedCounts.{pollFrame, Begins, Counts}
 use Rattle.paper.proofs.History.{counted}
 
+poll-frame : (cc : Channel) → frameOf (pollFrame cc) ≡ poll cc
+unfolding onChannel frameOf
+poll-frame cdmuA = refl
+poll-frame cdmuB = refl
+
 -- An accepted poll begins with its channel's ID and the telemetry count of that channel.
-poll-begins : (c : Controller) (cc : Channel) → step c (pollOn cc) 126 .reply ≡ 0
-    → take 4 (step c (pollOn cc) 126 .out) ≡ bytes16 (packetId cc) ++ bytes16 (0xC000 + at cc (c .tallies .telemetry) % 16384)
-unfolding onChannel frameOf shown shownFrom answer reply refused replied step
-poll-begins c cdmuA e = by (c .queue) refl
+poll-begins : (c : Controller) (cc : Channel) → step c (pollFrame cc) 126 .reply ≡ 0
+    → take 4 (step c (pollFrame cc) 126 .out) ≡ bytes16 (packetId cc) ++ bytes16 (0xC000 + at cc (c .tallies .telemetry) % 16384)
+unfolding shown shownFrom answer reply refused replied step
+poll-begins c cc = rw (poll-frame cc) (by (c .queue) refl)
   where
-    by : (q : List (Piece (List ℕ))) → c .queue ≡ q
-        → take 4 (step c (pollOn cdmuA) 126 .out) ≡ bytes16 (packetId cdmuA) ++ bytes16 (0xC000 + c .tallies .telemetry .a % 16384)
-    by [] h = absurd (eqb-false 9 0 refl (rw h at e))
-    by (p ∷ rest) h = rw (h, ne-eqb (suc (length rest)) 0 (λ z. omega (arith, z)))
-poll-begins c cdmuB e = by (c .queue) refl
-  where
-    by : (q : List (Piece (List ℕ))) → c .queue ≡ q
-        → take 4 (step c (pollOn cdmuB) 126 .out) ≡ bytes16 (packetId cdmuB) ++ bytes16 (0xC000 + c .tallies .telemetry .b % 16384)
-    by [] h = absurd (eqb-false 9 0 refl (rw h at e))
-    by (p ∷ rest) h = rw (h, ne-eqb (suc (length rest)) 0 (λ z. omega (arith, z)))
+    o : Outcome
+    o = replied (reply (holds c) (poll cc) 126) (poll cc) c
+
+    by : (q : List (Piece (List ℕ))) → c .queue ≡ q → o .reply ≡ 0
+        → take 4 (o .out) ≡ bytes16 (packetId cc) ++ bytes16 (0xC000 + at cc (c .tallies .telemetry) % 16384)
+    by [] h e = absurd (eqb-false 9 0 refl (rw h at e))
+    by (p ∷ rest) h e = rw (h, ne-eqb (suc (length rest)) 0 (λ z. omega (arith, z)))
 
 -- "C000 plus that channel's telemetry count modulo 16384", by the polls made
 pub sequence-word : (cc : Channel) (n : ℕ) → Begins cc n (bytes16 (packetId cc) ++ bytes16 (0xC000 + n % 65536 % 16384))

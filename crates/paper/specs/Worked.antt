@@ -20,7 +20,7 @@ pub record Worked : Type 0 where
   pub replies-channels : Answers replies.channels
   pub replies-ids-and-lengths : Answers replies.ids-and-lengths
   pub replies-masks : Answers replies.masks
-  pub replies-streams : Answers replies.streams
+  pub replies-other-streams : Answers replies.other-streams
   pub replies-lengths : Answers replies.lengths
   pub replies-modes : Answers replies.modes
   pub replies-values : Answers replies.values

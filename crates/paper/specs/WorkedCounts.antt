@@ -12,26 +12,26 @@ use Rattle.paper.specs.Acts.{noted}
 use Rattle.paper.specs.Step.{step}
 use Rattle.paper.specs.Runs.{Call, runs}
 use Rattle.paper.specs.History.{history, pollsOn}
-use Rattle.paper.specs.WorkedLines.{bytes}
+use Rattle.paper.specs.WorkedLines.{hex}
 
-abbrev pub pollOn : Channel → List ℕ
-pollOn cdmuA = bytes "05 0A"
-pollOn cdmuB = bytes "05 0B"
+abbrev pub pollFrame : Channel → List ℕ
+pollFrame cdmuA = hex "05 0A"
+pollFrame cdmuB = hex "05 0B"
 
 -- After any calls among which n polls on a channel were accepted, the next that is accepted on it begins with this packet ID and
 -- sequence word.
 abbrev pub Begins : Channel → ℕ → List ℕ → Type 0
 Begins cc n head =
-    (calls : List Call) → pollsOn cc (history start calls) ≡ n → step (runs start calls) (pollOn cc) 126 .reply ≡ 0
-    → take 4 (step (runs start calls) (pollOn cc) 126 .out) ≡ head
+    (calls : List Call) → pollsOn cc (history start calls) ≡ n → step (runs start calls) (pollFrame cc) 126 .reply ≡ 0
+    → take 4 (step (runs start calls) (pollFrame cc) 126 .out) ≡ head
 
 pub record Counts : Type 0 where
   -- "C000 plus that channel's telemetry count modulo 16384"
-  pub polls-16383 : Begins cdmuA 16383 (bytes "0F94 FFFF")
-  pub polls-16384 : Begins cdmuA 16384 (bytes "0F94 C000")
-  pub polls-40000 : Begins cdmuB 40000 (bytes "0FB4 DC40")
-  pub polls-65535 : Begins cdmuB 65535 (bytes "0FB4 FFFF")
-  pub polls-65536 : Begins cdmuB 65536 (bytes "0FB4 C000")
+  pub polls-16383 : Begins cdmuA 16383 (hex "0F94 FFFF")
+  pub polls-16384 : Begins cdmuA 16384 (hex "0F94 C000")
+  pub polls-40000 : Begins cdmuB 40000 (hex "0FB4 DC40")
+  pub polls-65535 : Begins cdmuB 65535 (hex "0FB4 FFFF")
+  pub polls-65536 : Begins cdmuB 65536 (hex "0FB4 C000")
   -- "All counts of 16 bits go from 65535 to 0 on purpose; the error count is 8 bits and wraps too."
   pub wraps : (raised 65534 ≡ 65535) × (raised 65535 ≡ 0) × (raised8 254 ≡ 255) × (raised8 255 ≡ 0)
   -- "modulo 4096 (ours)": the count after a piece's own

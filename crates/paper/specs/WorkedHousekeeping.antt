@@ -5,7 +5,7 @@
 use mathlib.Core.List.{List, [], _∷_, _++_}
 use Prim.Native.Nat.{ℕ}
 use lib.ListN.{replicate}
-use Rattle.paper.specs.WorkedLines.{Line, line, bytes, upward, _gets_, _from_shows_, _lent_, times, tickEach, pollsB}
+use Rattle.paper.specs.WorkedLines.{Line, line, hex, upward, _gets_, _from_shows_, _lent_, times, tickEach, pollsB}
 
 -- a sample of zeros
 abbrev zeros : (s width : ℕ) → List Line
@@ -57,13 +57,13 @@ every-field =
     ++ "02 0A 0016 F0E5" gets 0
     ∷ []
     ++ pollsB 0xA 10 6 1
-    (bytes "8888 CCCC05 0E 8ABC 5D 6F 0961C3 0C 1234"
+    (hex "8888 CCCC05 0E 8ABC 5D 6F 0961C3 0C 1234"
     -- commands, broadcasts, command packets, telemetry packets, errors and last command
-    ++ bytes "0013 000D 000F 0015 0009 0012 000A 0B 04 E5 16"
+    ++ hex "0013 000D 000F 0015 0009 0012 000A 0B 04 E5 16"
     -- the streams' counts, times 16: ACC-I 7, API-V 1, DEN 2, PER 3, TIL 4, housekeeping 6, ACC-E 5
-    ++ bytes "0000 0000 0070 0000 0010 0020 0030 0000 0000 0040 0060 0050"
+    ++ hex "0000 0000 0070 0000 0010 0020 0030 0000 0000 0040 0060 0050"
     ++ upward 0xC0 58
-    ++ bytes "9999")
+    ++ hex "9999")
 
 -- before any frame 07, and before anything else
 abbrev pub from-fresh : List Line
@@ -71,11 +71,11 @@ from-fresh =
     "02 0B 0016 1234" gets 0
     ∷ []
     ++ pollsB 0xA 0 0 1
-    (bytes "8888 000000 01 0000 00 00 000000 00 0000"
-    ++ bytes "0001 0000 0000 0000 0001 0000 0000 00 00 34 16"
+    (hex "8888 000000 01 0000 00 00 000000 00 0000"
+    ++ hex "0001 0000 0000 0000 0001 0000 0000 00 00 34 16"
     ++ replicate 24 0
     ++ replicate 58 0
-    ++ bytes "9999")
+    ++ hex "9999")
 
 -- ---- error count and error code, last sequence number and last code
 

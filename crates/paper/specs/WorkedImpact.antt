@@ -5,11 +5,11 @@ use mathlib.Core.List.{List, [], _∷_, _++_}
 use Prim.Native.Nat.{ℕ}
 use Prim.Native.String.{String}
 use lib.ListN.{replicate}
-use Rattle.paper.specs.WorkedLines.{Line, bytes, upward, packed, _gets_, _gives_, _from_shows_, times, tickEach, pollsA}
+use Rattle.paper.specs.WorkedLines.{Line, hex, upward, packed, _gets_, _gives_, _from_shows_, times, tickEach, pollsA}
 
 -- a record as it is sent: opening, SSP time and mode, 512 readings, closing (2) and fill (776 to 826: 50)
 abbrev record-of : String → List ℕ → List ℕ
-record-of head readings = bytes "8888" ++ bytes head ++ packed readings ++ replicate 52 0x99
+record-of head readings = hex "8888" ++ hex head ++ packed readings ++ replicate 52 0x99
 
 -- ---- which readings are above
 

@@ -36,8 +36,8 @@ paired [] = []
 paired (h ∷ []) = []
 paired (h ∷ l ∷ ds) = (h * 16 + l) ∷ paired ds
 
-abbrev pub bytes : String → List ℕ
-bytes s = paired (digits s)
+abbrev pub hex : String → List ℕ
+hex s = paired (digits s)
 
 -- n numbers from k on
 abbrev pub upward : ℕ → ℕ → List ℕ
@@ -67,16 +67,16 @@ line f n said = record { given = f; room = 776; reply = n; part = λ o. o; said 
 
 infix 80 _gets_
 abbrev pub _gets_ : String → ℕ → Line
-f gets n = line (bytes f) n []
+f gets n = line (hex f) n []
 
 infix 80 _gives_
 abbrev pub _gives_ : String → String → Line
-f gives o = line (bytes f) 0 (bytes o)
+f gives o = line (hex f) 0 (hex o)
 
 infix 80 _from_shows_
 abbrev pub _from_shows_ : String → ℕ → String → Line
 f from at shows o =
-    record { given = bytes f; room = 776; reply = 0; part = λ w. take (length (bytes o)) (drop at w); said = bytes o }
+    record { given = hex f; room = 776; reply = 0; part = λ w. take (length (hex o)) (drop at w); said = hex o }
 
 -- an output of so many bytes lent with it
 infix 75 _lent_
@@ -98,7 +98,7 @@ abbrev pub polls : (cc id : ℕ) → (s n k pieces : ℕ) → List ℕ → List 
 polls cc id s n k zero packet = []
 polls cc id s n k (suc pieces) packet =
     line (0x05 ∷ cc ∷ []) 0
-    (bytes16 id ++ bytes16 (0xC000 + n) ++ bytes "0077" ++ bytes16 (16 * k + s) ++ take 118 packet)
+    (bytes16 id ++ bytes16 (0xC000 + n) ++ hex "0077" ++ bytes16 (16 * k + s) ++ take 118 packet)
     ∷ polls cc id s (suc n) (suc k) pieces (drop 118 packet)
 
 abbrev pub pollsA : (s n k pieces : ℕ) → List ℕ → List Line

@@ -5,7 +5,7 @@ use mathlib.Core.List.{List, [], _∷_, _++_}
 use Prim.Native.Nat.{ℕ, zero, suc, _+_}
 use lib.ListN.{replicate}
 use Rattle.wire.specs.Wire.{bytes16}
-use Rattle.paper.specs.WorkedLines.{Line, line, bytes, upward, packed, _gets_, _from_shows_, times, tickEach, pollsA, pollsB}
+use Rattle.paper.specs.WorkedLines.{Line, line, hex, upward, packed, _gets_, _from_shows_, times, tickEach, pollsA, pollsB}
 
 -- n samples of stream s, of so many bytes each, all accepted: the bytes count up from k; a tick follows each
 abbrev samplesOf : (s width k n : ℕ) → List Line
@@ -35,18 +35,18 @@ interleaved =
     ∷ "02 0A 0032 0000 000B" gets 0
     ∷ []
     ++ samplesOf 0x04 3 0x03 35
-    ++ pollsA 0x4 0 0 1 (bytes "8888 0FA005 02" ++ upward 0x00 108 ++ bytes "9999 9999")
+    ++ pollsA 0x4 0 0 1 (hex "8888 0FA005 02" ++ upward 0x00 108 ++ hex "9999 9999")
     ++ samplesOf 0x06 3 0x83 35
-    ++ pollsB 0x6 0 0 1 (bytes "8888 0FA006 02" ++ upward 0x80 108 ++ bytes "9999 9999")
+    ++ pollsB 0x6 0 0 1 (hex "8888 0FA006 02" ++ upward 0x80 108 ++ hex "9999 9999")
     ++ samplesOf 0x09 6 0x16 17
-    ++ pollsA 0x9 1 0 1 (bytes "8888 0FA007 02" ++ upward 0x10 108 ++ bytes "9999 9999")
+    ++ pollsA 0x9 1 0 1 (hex "8888 0FA007 02" ++ upward 0x10 108 ++ hex "9999 9999")
     ++ densities 0x7C1 71
-    ++ pollsA 0x5 2 0 1 (bytes "8888 0FA008 02" ++ packed (upward 0x7C0 72) ++ bytes "9999 9999")
+    ++ pollsA 0x5 2 0 1 (hex "8888 0FA008 02" ++ packed (upward 0x7C0 72) ++ hex "9999 9999")
     -- the next API-V packet: second 1002 (0FA800), mode 3, locked
     ++ "01 0A 0FA8 7FFF 00 00" gets 0
     ∷ []
     ++ samplesOf 0x04 3 0x00 36
-    ++ pollsB 0x4 1 1 1 (bytes "8888 0FA800 0B" ++ upward 0x00 108 ++ bytes "9999 9999")
+    ++ pollsB 0x4 1 1 1 (hex "8888 0FA800 0B" ++ upward 0x00 108 ++ hex "9999 9999")
     ++ "05 0A" gets 9
     ∷ []
 
@@ -61,8 +61,8 @@ acc-e-packets =
     ∷ "02 0A 0032 0000 000D" gets 0
     ∷ line (0x04 ∷ 0x0B ∷ (replicate 256 0x88 ++ replicate 256 0x99)) 0 []
     ∷ []
-    ++ pollsA 0xB 0 0 5 (bytes "8888 096000 15" ++ upward 0 256 ++ upward 0 256 ++ replicate 72 0x99)
-    ++ pollsB 0xB 0 5 5 (bytes "8888 096001 1D" ++ replicate 256 0x88 ++ replicate 256 0x99 ++ replicate 72 0x99)
+    ++ pollsA 0xB 0 0 5 (hex "8888 096000 15" ++ upward 0 256 ++ upward 0 256 ++ replicate 72 0x99)
+    ++ pollsB 0xB 0 5 5 (hex "8888 096001 1D" ++ replicate 256 0x88 ++ replicate 256 0x99 ++ replicate 72 0x99)
     ++ "05 0A" gets 9
     ∷ []
 
@@ -86,8 +86,8 @@ short-of-room =
     ∷ "02 0A 0016 0000" gets 7
     ∷ []
     ++ times 42 ("05 0A" from 4 shows "0077" ∷ [])
-    ++ pollsA 0xB 44 0 5 (bytes "8888 000023 15" ++ replicate 512 0x22 ++ replicate 72 0x99)
-    ++ pollsA 0x4 49 0 1 (bytes "8888 000000 05" ++ upward 0x00 108 ++ bytes "9999 9999")
+    ++ pollsA 0xB 44 0 5 (hex "8888 000023 15" ++ replicate 512 0x22 ++ replicate 72 0x99)
+    ++ pollsA 0x4 49 0 1 (hex "8888 000000 05" ++ upward 0x00 108 ++ hex "9999 9999")
     ++ "05 0A" gets 9
     ∷ []
 
@@ -116,17 +116,17 @@ clears =
     ∷ "05 0A" from 0 shows "0F94 C000 0077 000A"
     ∷ "05 0B" from 0 shows "0FB4 C000 0077 001A"
     ∷ []
-    ++ pollsA 0x9 1 0 1 (bytes "8888 000023 05" ++ upward 0x00 108 ++ bytes "9999 9999")
+    ++ pollsA 0x9 1 0 1 (hex "8888 000023 05" ++ upward 0x00 108 ++ hex "9999 9999")
     ++ "05 0A" gets 9
     ∷ line (0x04 ∷ 0x0B ∷ replicate 512 0x33) 0 []
     ∷ "02 0A 0016 0000" gets 0
     ∷ []
-    ++ pollsA 0xB 2 10 5 (bytes "8888 000034 15" ++ replicate 512 0x33 ++ replicate 72 0x99)
+    ++ pollsA 0xB 2 10 5 (hex "8888 000034 15" ++ replicate 512 0x33 ++ replicate 72 0x99)
     ++ "05 0A" from 0 shows "0F94 C007 0077 002A"
     ∷ "05 0A" gets 9
     ∷ []
     ++ samplesOf 0x04 3 0x83 35
-    ++ pollsA 0x4 8 0 1 (bytes "8888 000034 05" ++ upward 0x80 108 ++ bytes "9999 9999")
+    ++ pollsA 0x4 8 0 1 (hex "8888 000034 05" ++ upward 0x80 108 ++ hex "9999 9999")
 
 -- "slots are free again": 48 housekeeping packets are cleared, two of them polled before, and 48 more find room; each of them took a count
 abbrev pub clears-all : List Line

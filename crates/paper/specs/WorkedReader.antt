@@ -5,32 +5,32 @@ use mathlib.Core.List.{List, [], _∷_, _++_}
 use Prim.Native.Nat.{ℕ}
 use Prim.Native.String.{String}
 use lib.ListN.{replicate}
-use Rattle.paper.specs.WorkedLines.{Line, line, bytes, upward, _gets_, _lent_}
+use Rattle.paper.specs.WorkedLines.{Line, line, hex, upward, _gets_, _lent_}
 
 -- a packet with what stands before its 118 bytes; one that gets a reply; one with which a datastream packet is handed out
 infix 80 _with_replies_
 abbrev _with_replies_ : String → List ℕ → ℕ → Line
-head with body replies n = line (bytes head ++ body) n []
+head with body replies n = line (hex head ++ body) n []
 
 infix 80 _brings_replies_
 abbrev _brings_replies_ : String → List ℕ → ℕ → Line
-tag brings body replies n = line (bytes "0F94 C000 0077" ++ bytes tag ++ body) n []
+tag brings body replies n = line (hex "0F94 C000 0077" ++ hex tag ++ body) n []
 
 infix 80 _brings_hands_
 abbrev _brings_hands_ : String → List ℕ → List ℕ → Line
-tag brings body hands packet = line (bytes "0F94 C000 0077" ++ bytes tag ++ body) 1 packet
+tag brings body hands packet = line (hex "0F94 C000 0077" ++ hex tag ++ body) 1 packet
 
 -- ---- streams of one piece
 
 -- an API-V packet of 116 bytes, and its piece; a housekeeping packet of 118 is its piece
 abbrev api-v-packet : List ℕ
-api-v-packet = bytes "8888" ++ upward 1 112 ++ bytes "9999"
+api-v-packet = hex "8888" ++ upward 1 112 ++ hex "9999"
 
 abbrev api-v-piece : List ℕ
-api-v-piece = api-v-packet ++ bytes "9999"
+api-v-piece = api-v-packet ++ hex "9999"
 
 abbrev hk-packet : List ℕ
-hk-packet = bytes "8888" ++ upward 1 114 ++ bytes "9999"
+hk-packet = hex "8888" ++ upward 1 114 ++ hex "9999"
 
 -- Handed out once, at its listed length; then a repeat, on the other channel too. "finished but opening, closing or fill bytes are wrong",
 -- one byte each; the record has moved on, so the same count is then a repeat, and the next is handed out.
@@ -40,25 +40,25 @@ one-piece =
     ∷ "0004" brings api-v-piece replies 22
     ∷ "0FB4 FFFF 0077 0004" with api-v-piece replies 22
     -- opening
-    ∷ "0014" brings (bytes "8788" ++ upward 1 112 ++ bytes "9999 9999") replies 23
+    ∷ "0014" brings (hex "8788" ++ upward 1 112 ++ hex "9999 9999") replies 23
     ∷ "0014" brings api-v-piece replies 22
     ∷ "0024" brings api-v-piece hands api-v-packet
-    ∷ "0034" brings (bytes "8889" ++ upward 1 112 ++ bytes "9999 9999") replies 23
+    ∷ "0034" brings (hex "8889" ++ upward 1 112 ++ hex "9999 9999") replies 23
     -- closing
-    ∷ "0044" brings (bytes "8888" ++ upward 1 112 ++ bytes "9899 9999") replies 23
-    ∷ "0054" brings (bytes "8888" ++ upward 1 112 ++ bytes "9998 9999") replies 23
+    ∷ "0044" brings (hex "8888" ++ upward 1 112 ++ hex "9899 9999") replies 23
+    ∷ "0054" brings (hex "8888" ++ upward 1 112 ++ hex "9998 9999") replies 23
     -- fill
-    ∷ "0064" brings (bytes "8888" ++ upward 1 112 ++ bytes "9999 9899") replies 23
-    ∷ "0074" brings (bytes "8888" ++ upward 1 112 ++ bytes "9999 999A") replies 23
+    ∷ "0064" brings (hex "8888" ++ upward 1 112 ++ hex "9999 9899") replies 23
+    ∷ "0074" brings (hex "8888" ++ upward 1 112 ++ hex "9999 999A") replies 23
     ∷ "0074" brings api-v-piece replies 22
     -- time, mode and data are not judged
-    ∷ "0084" brings (bytes "8888" ++ replicate 112 0x99 ++ bytes "9999 9999") hands (bytes "8888" ++ replicate 112 0x99 ++ bytes "9999")
+    ∷ "0084" brings (hex "8888" ++ replicate 112 0x99 ++ hex "9999 9999") hands (hex "8888" ++ replicate 112 0x99 ++ hex "9999")
     -- pieces 9 to 11 are missing
     ∷ "00C4" brings api-v-piece hands api-v-packet
     -- housekeeping has no fill, and a record of its own
     ∷ "000A" brings hk-packet hands hk-packet
-    ∷ "001A" brings (bytes "8888" ++ upward 1 114 ++ bytes "9998") replies 23
-    ∷ "002A" brings (bytes "8888" ++ upward 1 114 ++ bytes "9899") replies 23
+    ∷ "001A" brings (hex "8888" ++ upward 1 114 ++ hex "9998") replies 23
+    ∷ "002A" brings (hex "8888" ++ upward 1 114 ++ hex "9899") replies 23
     ∷ "003A" brings hk-packet hands hk-packet
     ∷ "00D4" brings api-v-piece hands api-v-packet
     ∷ []
@@ -85,8 +85,8 @@ abbrev pub refusals : List Line
 refusals =
     "" gets 20
     ∷ "0F94 C000 0077 0004" gets 20
-    ∷ "0004" brings (api-v-packet ++ bytes "99") replies 20
-    ∷ "0004" brings (api-v-piece ++ bytes "99") replies 20
+    ∷ "0004" brings (api-v-packet ++ hex "99") replies 20
+    ∷ "0004" brings (api-v-piece ++ hex "99") replies 20
     ∷ "0F95 C000 0077 0004" with api-v-piece replies 20
     ∷ "0F84 C000 0077 0004" with api-v-piece replies 20
     ∷ "0FB5 C000 0077 0004" with api-v-piece replies 20
@@ -121,22 +121,22 @@ refusals =
 
 -- an ACC-E packet of 520 bytes in five pieces whose data open with 88 88 too; the last has 70 bytes of fill
 abbrev p0 : List ℕ
-p0 = bytes "8888" ++ replicate 116 0x10
+p0 = hex "8888" ++ replicate 116 0x10
 
 abbrev p1 : List ℕ
-p1 = bytes "8888" ++ replicate 116 0x11
+p1 = hex "8888" ++ replicate 116 0x11
 
 abbrev p2 : List ℕ
-p2 = bytes "8888" ++ replicate 116 0x12
+p2 = hex "8888" ++ replicate 116 0x12
 
 abbrev p3 : List ℕ
-p3 = bytes "8888" ++ replicate 116 0x13
+p3 = hex "8888" ++ replicate 116 0x13
 
 abbrev p4 : List ℕ
-p4 = replicate 46 0x14 ++ bytes "9999" ++ replicate 70 0x99
+p4 = replicate 46 0x14 ++ hex "9999" ++ replicate 70 0x99
 
 abbrev acc-e-packet : List ℕ
-acc-e-packet = p0 ++ p1 ++ p2 ++ p3 ++ (replicate 46 0x14 ++ bytes "9999")
+acc-e-packet = p0 ++ p1 ++ p2 ++ p3 ++ (replicate 46 0x14 ++ hex "9999")
 
 -- Whole, with another stream's packets between; whole with repeats; with piece 2 missing; with pieces 2 to 6 missing, after which the place
 -- fits; a piece that comes once more, but not as the next arrival: nothing is handed out.
@@ -199,12 +199,12 @@ finishing a b c d e first last =
 -- opening, closing and fill of a packet of five pieces: the first and the last byte of each
 abbrev pub five-wrong : List Line
 five-wrong =
-    finishing "000B" "001B" "002B" "003B" "004B" (bytes "8788" ++ replicate 116 0x10) p4
-    ++ finishing "005B" "006B" "007B" "008B" "009B" (bytes "8887" ++ replicate 116 0x10) p4
-    ++ finishing "00AB" "00BB" "00CB" "00DB" "00EB" p0 (replicate 46 0x14 ++ bytes "9099" ++ replicate 70 0x99)
-    ++ finishing "00FB" "010B" "011B" "012B" "013B" p0 (replicate 46 0x14 ++ bytes "9990" ++ replicate 70 0x99)
-    ++ finishing "014B" "015B" "016B" "017B" "018B" p0 (replicate 46 0x14 ++ bytes "9999 90" ++ replicate 69 0x99)
-    ++ finishing "019B" "01AB" "01BB" "01CB" "01DB" p0 (replicate 46 0x14 ++ bytes "9999" ++ replicate 69 0x99 ++ bytes "90")
+    finishing "000B" "001B" "002B" "003B" "004B" (hex "8788" ++ replicate 116 0x10) p4
+    ++ finishing "005B" "006B" "007B" "008B" "009B" (hex "8887" ++ replicate 116 0x10) p4
+    ++ finishing "00AB" "00BB" "00CB" "00DB" "00EB" p0 (replicate 46 0x14 ++ hex "9099" ++ replicate 70 0x99)
+    ++ finishing "00FB" "010B" "011B" "012B" "013B" p0 (replicate 46 0x14 ++ hex "9990" ++ replicate 70 0x99)
+    ++ finishing "014B" "015B" "016B" "017B" "018B" p0 (replicate 46 0x14 ++ hex "9999 90" ++ replicate 69 0x99)
+    ++ finishing "019B" "01AB" "01BB" "01CB" "01DB" p0 (replicate 46 0x14 ++ hex "9999" ++ replicate 69 0x99 ++ hex "90")
     ++ "01EB" brings p0 replies 0
     ∷ "01FB" brings p1 replies 0
     ∷ "020B" brings p2 replies 0
@@ -221,6 +221,6 @@ seven-pieces =
     ∷ "0032" brings p3 replies 0
     ∷ "0042" brings p1 replies 0
     ∷ "0052" brings p2 replies 0
-    ∷ "0062" brings (replicate 66 0x55 ++ bytes "9999" ++ replicate 50 0x99)
-    hands (p0 ++ p1 ++ p2 ++ p3 ++ p1 ++ p2 ++ replicate 66 0x55 ++ bytes "9999")
+    ∷ "0062" brings (replicate 66 0x55 ++ hex "9999" ++ replicate 50 0x99)
+    hands (p0 ++ p1 ++ p2 ++ p3 ++ p1 ++ p2 ++ replicate 66 0x55 ++ hex "9999")
     ∷ []

@@ -131,8 +131,8 @@ masks =
 -- ---- "2: .. stream not carried"; "3: wrong .. sample length"; "6: sample not taken in this mode"
 
 -- "Sample frames exist for 4, 5, 6, 9 and B; any other stream in one gets 2." (14 is not stream 4.)
-abbrev pub streams : List Line
-streams =
+abbrev pub other-streams : List Line
+other-streams =
     "04 00 000000" gets 2
     ∷ "04 01 000000" gets 2
     ∷ "04 02 000000" gets 2

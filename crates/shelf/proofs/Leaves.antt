@@ -87,10 +87,6 @@ fronted : (h : Heard) (o : List ℕ) (t : ℕ) → Listed t (h .reply) (h .out) 
 fronted h o t (inl l) e fits = drop-put o 0 (h .out) (omega (arith, l .1)) (listed t) (omega (arith, l .1))
 fronted h o t (inr l) e fits = absurd (l .0 e)
 
--- replies that differ
-other : (n m k : ℕ) → n ≡ m → n ≡ k → eqb m k ≡ false → ⊥
-other n m k e h z = eqb-false m k z (sym e ∙ h)
-
 pub output-past : (s f o : List ℕ) → readOf s f o .reply ≡ 1
     → drop (listed (be16 f 6 % 16)) (readOf s f o .out) ≡ drop (listed (be16 f 6 % 16)) o
 unfolding readOf readerStep
@@ -128,7 +124,7 @@ module _ (r : Reader) (t count : ℕ) (x : List ℕ) where
           ≡ moved r t count place
       at true = refl
       at false = refl
-  gathers-wrong false place g e = absurd (other 0 0 23 refl e refl)
+  gathers-wrong false place g e = absurd (eqb-false 0 23 refl e)
 
   moves-wrong : (anew goesOn atLast : Bool) (place : ℕ) (g : List (List ℕ))
       → received r t (moves anew goesOn atLast count place g x) .reply ≡ 23
@@ -136,12 +132,12 @@ module _ (r : Reader) (t count : ℕ) (x : List ℕ) where
   unfolding received
   moves-wrong true goesOn atLast place g e = gathers-wrong atLast place _ e
   moves-wrong false true atLast place g e = gathers-wrong atLast place _ e
-  moves-wrong false false atLast place g e = absurd (other 0 0 23 refl e refl)
+  moves-wrong false false atLast place g e = absurd (eqb-false 0 23 refl e)
 
   arrives-wrong : (b : Bool) (k : ℕ) (q : Track (List ℕ)) (d : ℕ) → received r t (arrives b k q count d x) .reply ≡ 23
       → received r t (arrives b k q count d x) .next ≡ moved r t count (placed k (q .place) d)
   unfolding received
-  arrives-wrong true k q d e = absurd (other 22 22 23 refl e refl)
+  arrives-wrong true k q d e = absurd (eqb-false 22 23 refl e)
   arrives-wrong false k q d e =
       let place : ℕ = placed k (q .place) d in
       moves-wrong (eqb place 0) (eqb d 1 && q .running) (eqb place (k - 1)) place (q .gathered) e
@@ -167,10 +163,10 @@ wrong r f room = at (ltb room 776) (wellFormed f) (carried (be16 f 6 % 16))
         → cond w (heard 24 [] r) (understood r (cond v (cond c (packet t count (drop 8 f)) notCarried) noPacket)) .reply ≡ 23
         → cond w (heard 24 [] r) (understood r (cond v (cond c (packet t count (drop 8 f)) notCarried) noPacket)) .next
         ≡ moved r t count (placed (pieces t) (r t .place) d)
-    at true v c e = absurd (other 24 24 23 refl e refl)
+    at true v c e = absurd (eqb-false 24 23 refl e)
     at false true true e = arrives-wrong r t count (drop 8 f) (eqb d 0) (pieces t) (r t) d e
-    at false true false e = absurd (other 21 21 23 refl e refl)
-    at false false c e = absurd (other 20 20 23 refl e refl)
+    at false true false e = absurd (eqb-false 21 23 refl e)
+    at false false c e = absurd (eqb-false 20 23 refl e)
 
 pub moved-on : (s f o : List ℕ) → Bytes f → readOf s f o .reply ≡ 23
     → let t : ℕ = be16 f 6 % 16 in
@@ -186,4 +182,4 @@ moved-on s f o b = at (fit s) refl
         ≡ moved (readerIn s) (be16 f 6 % 16) (be16 f 6 / 16)
         (placed (pieces (be16 f 6 % 16)) (readerIn s (be16 f 6 % 16) .place) (distance (readerIn s (be16 f 6 % 16) .last) (be16 f 6 / 16)))
     at true e n = received-left s f (length o) (fit-true s e) b .held ∙ wrong (readerIn s) f (length o) n
-    at false e n = absurd (other 25 25 23 refl n refl)
+    at false e n = absurd (eqb-false 25 23 refl n)
