@@ -1,5 +1,11 @@
 // Frames 05 and 06, which are answered in the output: a poll by a packet, a status frame by a status word.
 use frames::Side;
+use state::COMMANDS;
+use state::FIRST;
+use state::FLAG;
+use state::NIBBLE;
+use state::TELEMETRY;
+use state::WAITING;
 ghost use mathlib.Core.Path.{_≡_};
 ghost use Prim.Native.Nat.{_<_, _≤_};
 ghost use lib.ListN.{length, getD};
@@ -13,16 +19,6 @@ ghost use Rattle.state.specs.View.{view};
 ghost use Rattle.state.specs.Range.{Fit};
 ghost use Rattle.state.specs.Told.{res, answered};
 ghost use Rattle.machine.specs.Polled.{polledOn};
-
-// Where a channel's telemetry count stands.
-fn count_at(side: Side) -> usize
-    ensures { λ r. ⌜ (r ≡ telemetryAt (channel side)) × (r ≤ 39) ⌝ }
-{
-    match side {
-        Side::A => 37,
-        Side::B => 39,
-    }
-}
 
 // The packet ID of a channel.
 fn packet_id(side: Side) -> u16
@@ -40,7 +36,7 @@ fn show(s: &[u8], side: Side, out: &mut [u8])
     ensures { λ _. ⌜ now (out .exit) ≡ put (now (out .entry)) 0 (Acts.answer (view (now (s .entry))) (Frames.poll (channel side))) ⌝ }
 {
     let id = packet_id(side);
-    let sequence = 0xC000 + wire::get16(s, count_at(side)) % 16384;
+    let sequence = 0xC000 + wire::get16(s, state::channel_at(TELEMETRY, side)) % 16384;
     let front = [
         wire::hi(id),
         wire::lo(id),
@@ -50,7 +46,7 @@ fn show(s: &[u8], side: Side, out: &mut [u8])
         0x77,
     ];
     wire::copy_to(out, 0, &front);
-    wire::copy_part(out, 6, s, 2953 + 120 * wire::size(s[45]), 120);
+    wire::copy_part(out, 6, s, state::slot_at(wire::size(s[FIRST])), 120);
 }
 
 // The reply to a poll.
@@ -58,12 +54,12 @@ pub fn poll(s: &mut [u8], side: Side, out: &mut [u8]) -> u8
     requires { ⌜ (Fit (now s)) × (126 ≤ length (now out)) ⌝ }
     ensures { λ r. ⌜ res r (now (out .exit)) (now (s .exit)) ≡ answered (now (s .entry)) (Frames.poll (channel side)) (now (out .entry)) (polledOn (now (s .entry)) (channel side)) ⌝ }
 {
-    if s[46] == 0 {
+    if s[WAITING] == 0 {
         return 9;
     }
     show(s, side, out);
     slots::drop_first(s);
-    entry::raise(s, count_at(side));
+    entry::raise(s, state::channel_at(TELEMETRY, side));
     0
 }
 
@@ -72,10 +68,10 @@ fn word(s: &[u8], side: Side, low: u8, flags: u8) -> u16
     requires { ⌜ Fit (now s) ⌝ }
     ensures { λ r. ⌜ r ≡ Acts.statusWord (view (now (s .entry))) (channel side) low flags ⌝ }
 {
-    let impact = s[17] == 1;
-    let commands = wire::get16(s, 27);
+    let impact = s[FLAG] == 1;
+    let commands = wire::get16(s, COMMANDS);
     match side {
-        Side::A => status::word_a(low, flags, impact, clock::mode_in(s[8]), commands),
+        Side::A => status::word_a(low, flags, impact, clock::mode_in(s[NIBBLE]), commands),
         Side::B => status::word_b(low, flags, impact, commands),
     }
 }

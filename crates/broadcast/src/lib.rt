@@ -1,5 +1,12 @@
 // Frame 01, a broadcast: refused where it is late, else heard, and the mode rule applied.
 use frames::Side;
+use state::ALTITUDE;
+use state::BROADCASTS;
+use state::ENTRY_TIME;
+use state::FURTHER;
+use state::NIBBLE;
+use state::REFERENCE;
+use state::TIME;
 ghost use mathlib.Core.Path.{_≡_};
 ghost use Prim.Native.Nat.{_<_, _≤_};
 ghost use lib.ListN.{length};
@@ -12,22 +19,12 @@ ghost use Rattle.state.specs.Told.{told, handled};
 ghost use Rattle.machine.specs.Entered.{raisedOn};
 ghost use Rattle.machine.specs.Heard.{heardOn, movedOn};
 
-// Where a channel's broadcast count stands.
-fn count_at(side: Side) -> usize
-    ensures { λ r. ⌜ (r ≡ broadcastsAt (channel side)) × (r ≤ 31) ⌝ }
-{
-    match side {
-        Side::A => 29,
-        Side::B => 31,
-    }
-}
-
 // Its count is raised, its words are stored, and m is 0.
 fn hear(s: &mut [u8], side: Side, f: &[u8])
     requires { ⌜ (Fit (now s)) × (length (now f) ≡ 8) ⌝ }
     ensures { λ _. ⌜ now (s .exit) ≡ heardOn (now (s .entry)) (channel side) (be16 (now (f .entry)) 2) (be16 (now (f .entry)) 4) (byte (now (f .entry)) 6) (byte (now (f .entry)) 7) ⌝ }
 {
-    entry::raise(s, count_at(side));
+    entry::raise(s, state::channel_at(BROADCASTS, side));
     let time = wire::get16(f, 2);
     let altitude = wire::get16(f, 4);
     let words = [
@@ -40,7 +37,7 @@ fn hear(s: &mut [u8], side: Side, f: &[u8])
         0,
         0,
     ];
-    wire::copy_to(s, 0, &words);
+    wire::copy_to(s, TIME, &words);
 }
 
 // The mode rule, and the entry where it changes the mode.
@@ -48,15 +45,15 @@ fn move_on(s: &mut [u8])
     requires { ⌜ Fit (now s) ⌝ }
     ensures { λ _. ⌜ now (s .exit) ≡ movedOn (now (s .entry)) ⌝ }
 {
-    let mode = s[8];
+    let mode = s[NIBBLE];
     if clock::locked_in(mode) {
         return;
     }
-    let t = clock::seconds(wire::get16(s, 0));
-    let entered = clock::seconds_of(wire::get24(s, 9));
-    let reference = wire::get16(s, 15);
-    let altitude = wire::get16(s, 2);
-    let collecting = wire::get16(s, 25) != 0;
+    let t = clock::seconds(wire::get16(s, TIME));
+    let entered = clock::seconds_of(wire::get24(s, ENTRY_TIME));
+    let reference = wire::get16(s, REFERENCE);
+    let altitude = wire::get16(s, ALTITUDE);
+    let collecting = wire::get16(s, FURTHER) != 0;
     let next = clock::next_mode(mode, entered, reference, t, altitude, collecting);
     if next != mode {
         entry::enter(s, next, t);
@@ -68,8 +65,8 @@ pub fn frame(s: &mut [u8], side: Side, f: &[u8]) -> u8
     requires { ⌜ (Fit (now s)) × (length (now f) ≡ 8) ⌝ }
     ensures { λ r. ⌜ told r (now (s .exit)) ≡ handled (now (s .entry)) (broadcast (channel side) (be16 (now (f .entry)) 2) (be16 (now (f .entry)) 4) (byte (now (f .entry)) 6) (byte (now (f .entry)) 7)) (movedOn (heardOn (now (s .entry)) (channel side) (be16 (now (f .entry)) 2) (be16 (now (f .entry)) 4) (byte (now (f .entry)) 6) (byte (now (f .entry)) 7))) (λ n. raisedOn (now (s .entry)) (broadcastsAt (channel side))) ⌝ }
 {
-    if clock::seconds(wire::get16(f, 2)) < clock::seconds(wire::get16(s, 0)) {
-        entry::raise(s, count_at(side));
+    if clock::seconds(wire::get16(f, 2)) < clock::seconds(wire::get16(s, TIME)) {
+        entry::raise(s, state::channel_at(BROADCASTS, side));
         return 5;
     }
     hear(s, side, f);

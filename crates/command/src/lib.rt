@@ -1,5 +1,6 @@
 // What a command says: a request with its fields, or the number that refuses it.
 // The values are decided here once, so whoever acts on a request finds fields that are in range.
+use streams::NOT_CARRIED;
 ghost use mathlib.Core.Path.{_≡_};
 ghost use Rattle.paper.specs.Commands as Commands;
 ghost use Rattle.command.specs.Meaning.{meant, Decodes};
@@ -17,11 +18,11 @@ pub enum Decoded {
     Refuse(u8),
 }
 
-// Whether a mask has a bit outside 0E74, which is a bit of F18B.
+// Whether a mask has a bit that names no stream.
 fn outside(mask: u16) -> bool
     ensures { λ r. ⌜ r ≡ Commands.outside mask ⌝ }
 {
-    mask & 0xF18B != 0
+    mask & NOT_CARRIED != 0
 }
 
 // What the command `id` comes to with parameters of `len` bytes; `value` is their number where they are two, and any

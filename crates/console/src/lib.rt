@@ -139,7 +139,7 @@ pub fn serve_controller() {
 
 // Program reader: serves from a fresh reader.
 pub fn serve_reader() {
-    let mut state = [0u8; 9960];
+    let mut state = [0u8; 9962];
     gather::start(&mut state);
     serve(Machine::Reader, &mut state);
 }

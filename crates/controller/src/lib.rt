@@ -1,5 +1,7 @@
 // The reference controller on lent bytes: start, and one frame.
 use frames::Kind;
+use state::BYTES;
+use state::HOUSED;
 ghost use mathlib.Core.Path.{_≡_};
 ghost use Prim.Native.Nat.{_≤_};
 ghost use lib.ListN.{length};
@@ -16,7 +18,7 @@ ghost use Rattle.machine.specs.Called.{repliedOn, stepOf, startOf};
 pub fn start(s: &mut [u8]) -> u8
     ensures { λ r. ⌜ told r (now (s .exit)) ≡ startOf (now (s .entry)) ⌝ }
 {
-    if s.len() < 8713 {
+    if s.len() < BYTES {
         return 10;
     }
     state::start(s);
@@ -30,7 +32,7 @@ fn house(s: &mut [u8], f: &[u8])
 {
     let mut kept = [0u8; 58];
     wire::copy_part(&mut kept, 0, f, 1, 58);
-    wire::copy_to(s, 47, &kept);
+    wire::copy_to(s, HOUSED, &kept);
 }
 
 // The reply to a frame of a kind, with an output that is long enough.
@@ -60,7 +62,7 @@ fn handle(k: Kind, s: &mut [u8], f: &[u8], out: &mut [u8]) -> u8
 pub fn frame(s: &mut [u8], f: &[u8], out: &mut [u8]) -> u8
     ensures { λ r. ⌜ res r (now (out .exit)) (now (s .exit)) ≡ stepOf (now (s .entry)) (now (f .entry)) (now (out .entry)) ⌝ }
 {
-    if s.len() < 8713 {
+    if s.len() < BYTES {
         return 10;
     }
     if !state::in_range(s) {

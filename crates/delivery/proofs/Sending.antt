@@ -4,7 +4,7 @@
 use mathlib.Core.Path.{_≡_, refl, sym, ap, _∙_, subst}
 use mathlib.Core.Bool.{Bool, true, false, cond, _||_}
 use mathlib.Core.List.{List, [], _∷_, _++_, map}
-use Prim.Native.Nat.{ℕ, suc, _+_, _-_, _*_, _<_}
+use Prim.Native.Nat.{ℕ, suc, _+_, _-_, _*_, _/_, _<_}
 use native.Mathlib.Nat.{zero-mul, suc-mul}
 use native.Mathlib.Omega.{arith}
 use lib.Dec.{T, eqb, ltb, eqb→eq}
@@ -15,9 +15,9 @@ use Rattle.wire.specs.Wire.{be16}
 use Rattle.paper.specs.Frames.{Channel, Frame, broadcast, command, tick, sample, poll, status, analogue, faulty, frameOf}
 use Rattle.paper.specs.Impact.{Impact, Stamp}
 use Rattle.paper.specs.Commands.{clear, housekeeping, setMode, Decoded, request, refusal, names, decoded}
-use Rattle.paper.specs.Streams.{rowOf, acc-i, den, hk, pieces, listed, perPacket, width, carried}
+use Rattle.paper.specs.Streams.{Form, ofBytes, of12Bits, rowOf, acc-i, hk, pieces, listed, perPacket, width, form, carried}
 use Rattle.paper.specs.Streams as table
-use Rattle.paper.specs.Packets.{pack, joined, dataOf, opening, closing, header, datastream, cut}
+use Rattle.paper.specs.Packets.{pack, joined, made, dataOf, opening, closing, header, datastream, cut}
 use Rattle.paper.specs.Queue.{Piece, wrap, numbered, after, put}
 use Rattle.paper.specs.Controller.{Controller, start, stampNow}
 use Rattle.paper.specs.Housekeeping.{housekeepingData, housekeepingPacket}
@@ -28,7 +28,7 @@ use Rattle.paper.specs.Runs.{Call, runs}
 use Rattle.paper.specs.History.{isAccepted, fullPacket, onlyIf, sent, sentAt, sentBy, countsAfter, numberedAll, spares, stillWaiting, sparedAt, stillWaitingAt}
 use Rattle.paper.proofs.Packets.{length-pack}
 use Rattle.paper.proofs.All.{All, all-append, all-drop, all-without}
-use Rattle.paper.proofs.Table.{row-stream, rule, sampled-carried}
+use Rattle.paper.proofs.Table.{sampled-carried, bytes-fill, Paired, values-fill}
 use Rattle.paper.proofs.Refusals.{Passed, passed, reply-is}
 use Rattle.paper.proofs.History.{queues-step}
 use Rattle.paper.proofs.Kept.{Full, full-cut}
@@ -45,21 +45,13 @@ length-joined w (x ∷ xs) e = length-append x (joined xs) ∙ rw (e .0, length-
 length-data : (s : ℕ) (xs : List (List ℕ)) → table.sampled s ≡ true → Each (width s) xs → length xs ≡ perPacket s
     → 8 + length (dataOf s xs) ≡ listed s
 unfolding dataOf
-length-data s xs h e n = by (eqb s den) refl
+length-data s xs h e n = by (form s) refl
   where
-    stored : eqb s den ≡ false → 8 + perPacket s * width s ≡ listed s
-    stored f =
-        let t : T (eqb (rowOf s .stream) den || eqb (8 + perPacket s * width s) (listed s)) =
-        rule (λ r. ltb 0 (r .samples)) (λ r. eqb (r .stream) den || eqb (8 + r .samples * r .width) (r .listed)) tt (λ k. tt) s h in
-        eqb→eq _ _ (rw f at (rw (row-stream s) at t))
-
-    by : (b : Bool) → eqb s den ≡ b → 8 + length (cond b (pack (map (λ x. be16 x 0) xs)) (joined xs)) ≡ listed s
-    by true f =
-        let d : s ≡ den = eqb-true s den f in
-        let m : perPacket s ≡ 72 = rw d (unfold rowOf in refl) in
-        let l : listed s ≡ 116 = rw d (unfold rowOf in refl) in
-        omega (arith, l, length-pack 36 (map (λ x. be16 x 0) xs) (length-map xs (λ x. be16 x 0) ∙ n ∙ m))
-    by false f = let l = length-joined (width s) xs e in omega (arith, stored f, ap (λ k. k * width s) n)
+    by : (f : Form) → form s ≡ f → 8 + length (made f xs) ≡ listed s
+    by ofBytes f = omega (arith, bytes-fill s h f, length-joined (width s) xs e, ap (λ k. k * width s) n)
+    by of12Bits f =
+        let p : Paired s = values-fill s h f in
+        omega (arith, p .fill, length-pack (perPacket s / 2) (map (λ x. be16 x 0) xs) (length-map xs (λ x. be16 x 0) ∙ n ∙ p .pairs))
 
 -- a packet of the listed length, from its contents
 whole-datastream : (s : ℕ) (st : Stamp) (contents : List ℕ) → carried s ≡ true → 8 + length contents ≡ listed s

@@ -1,4 +1,9 @@
 // Counts that are raised, and entries to a mode.
+use state::ALTITUDE;
+use state::FLAG;
+use state::NIBBLE;
+use state::RING;
+use state::WINDOW;
 ghost use mathlib.Core.Path.{_≡_};
 ghost use mathlib.Core.List.{[], _∷_, _++_};
 ghost use Prim.Native.Nat.{_+_, _%_, _<_, _≤_};
@@ -21,9 +26,9 @@ fn empty(s: &mut [u8])
     requires { ⌜ stateBytes ≤ length (now s) ⌝ }
     ensures { λ _. ⌜ now (s .exit) ≡ emptiedOn (now (s .entry)) ⌝ }
 {
-    wire::set8(s, 17, 0);
-    wire::set8(s, 22, 0);
-    wire::fill(s, 1929, 1024, 0);
+    wire::set8(s, FLAG, 0);
+    wire::set8(s, WINDOW, 0);
+    wire::fill(s, RING, 1024, 0);
 }
 
 // Stores an entry.
@@ -37,13 +42,13 @@ fn note(s: &mut [u8], nibble: u8, reference: u16)
         wire::top24(time),
         wire::mid24(time),
         wire::low24(time),
-        s[8],
-        s[2],
-        s[3],
+        s[NIBBLE],
+        s[ALTITUDE],
+        s[ALTITUDE + 1],
         wire::hi(reference),
         wire::lo(reference),
     ];
-    wire::copy_to(s, 8, &run);
+    wire::copy_to(s, NIBBLE, &run);
 }
 
 // Enters a mode: `nibble` is the mode, plus 8 if locked.

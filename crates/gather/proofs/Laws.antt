@@ -11,7 +11,7 @@ use lib.Dec.{eqb}
 use lib.ListN.{length, getD, take, drop, replicate}
 use lib.Seq.{drop-cons, drop-drop, take-nil}
 use borrow.Author.Tests.{eqb-true, eqb-false, ltb-true, lt-ltb, le-ltb, lt-leb, le-leb}
-use Rattle.wire.specs.Wire.{be16, part, put}
+use Rattle.wire.specs.Wire.{be16, bytes16, part, put}
 use Rattle.wire.proofs.Runs.{getD-part, length-put}
 use Rattle.paper.specs.Streams.{pieces, listed, carried}
 use Rattle.paper.specs.Status.{bit}
@@ -25,10 +25,11 @@ use Rattle.track.specs.declared.Move.the-variants.{Repeat, Dropped, Kept, Finis
 use Rattle.track.specs.Moves.{InRange, Right}
 use Rattle.track.proofs.Laws.{right-repeat, right-dropped, right-kept, right-finished}
 use Rattle.track.proofs.Only.{only}
-use Rattle.shelf.specs.Layout.{recordAt, placeAt, markAt, gatherAt, pieceAt, streams, readerBytes}
-use Rattle.shelf.specs.Range.{Fits, Fit, inRange, fit}
+use Rattle.shelf.specs.Layout.{markAt, readerMark, placeAt, gatherAt, pieceAt, streams, readerBytes}
+use Rattle.shelf.specs.View.{lastIn, placeIn, runsIn}
+use Rattle.shelf.specs.Range.{Fit, fit}
 use Rattle.shelf.specs.Received.{recordedOn, gathersOn, readOf}
-use Rattle.shelf.specs.Fresh.{zeros, freshRecords, startedOn}
+use Rattle.shelf.specs.Fresh.{zeros, freshOn, startedOn}
 use Rattle.shelf.specs.Formed.{handsTo, gathersTo, movesTo, arrivesTo, arrivedTo, understoodTo, formed}
 use Rattle.shelf.proofs.Ranges.{fit-true}
 use Rattle.shelf.proofs.Packets.{long-enough}
@@ -101,10 +102,16 @@ module _ (s : List ℕ) (t : ℕ) (c : carried t ≡ true) where
 
 -- ---- fresh records
 
--- zeros, then the records
-pub started-by : (s x y : List ℕ) → x ≡ put s 0 (replicate 9960 0) → y ≡ put x 0 (freshRecords 0 streams) → y ≡ startedOn s
+-- one record more
+pub fresh-more : (s : List ℕ) (t : ℕ) → freshOn s (t + 1) ≡ recordedOn (freshOn s t) t 4095 (pieces t - 1) 0
+unfolding freshOn
+fresh-more s t = rw (add-one t)
+
+-- zeros, the mark, then the records
+pub started-by : (s x y z : List ℕ) → x ≡ put s 0 (replicate readerBytes 0) → y ≡ put x markAt (bytes16 readerMark)
+    → z ≡ freshOn y streams → z ≡ startedOn s
 unfolding startedOn zeros
-started-by s x y e h = h ∙ ap (λ (z : List ℕ). put z 0 (freshRecords 0 streams)) e
+started-by s x y z e h i = rw (i, h, e)
 
 -- ---- the stores of a move
 
@@ -113,25 +120,27 @@ pub kept-whole : (s y x : List ℕ) (t place : ℕ) → y ≡ put s (pieceAt t p
     → length x ≡ 118 → readerBytes ≤ length y
 kept-whole s y x t place e w l k h = omega (arith, ap length e ∙ length-put s (pieceAt t place) x (omega arith))
 
-module _ (s : List ℕ) (t : ℕ) (f : Fits s t) (c : carried t ≡ true) (count : ℕ) (small : count < 4096) where
+module _ (s : List ℕ) (t : ℕ) (c : carried t ≡ true) (count : ℕ) (small : count < 4096) where
   -- the record that the bytes hold
   abbrev pub found : Track
-  found = record { last = be16 s (recordAt t); place = getD s (placeAt t) 0; running = eqb (getD s (markAt t) 0) 1 }
+  found = record { last = lastIn s t; place = placeIn s t; running = runsIn s t }
 
   pub ok : InRange found (pieces t) count
-  ok = record { some = ltb-true 0 (pieces t) c; place = f .place; last = f .last; count = small }
+  ok =
+      let some = ltb-true 0 (pieces t) c in
+      record { some = some; place = mod-lt (getD s (placeAt t) 0) some; last = omega arith; count = small }
 
   abbrev d : ℕ
-  d = distance (be16 s (recordAt t)) count
+  d = distance (lastIn s t) count
 
   abbrev place : ℕ
-  place = placed (pieces t) (getD s (placeAt t) 0) d
+  place = placed (pieces t) (placeIn s t) d
 
   abbrev goesOn : Bool
-  goesOn = eqb d 1 && eqb (getD s (markAt t) 0) 1
+  goesOn = eqb d 1 && runsIn s t
 
   below : place < pieces t
-  below = mod-lt (getD s (placeAt t) 0 + d) (ok .some)
+  below = mod-lt (placeIn s t + d) (ok .some)
 
   module _ (x o : List ℕ) where
     -- the record anew
@@ -208,17 +217,17 @@ module _ (s f o : List ℕ) where
   too-short h = sym (read-formed s f o ∙ rw (lt-leb _ _ h))
 
   module _ (w : readerBytes ≤ length s) where
-    pub out-of-range : inRange s ≡ false → res 25 o s ≡ readOf s f o
+    pub no-reader : eqb (be16 s markAt) readerMark ≡ false → res 25 o s ≡ readOf s f o
     unfolding formed fit
-    out-of-range h = sym (read-formed s f o ∙ rw (le-leb _ _ w, h))
+    no-reader h = sym (read-formed s f o ∙ rw (le-leb _ _ w, h))
 
-    module _ (h : inRange s ≡ true) where
+    module _ (h : eqb (be16 s markAt) readerMark ≡ true) where
       fits : fit s ≡ true
       unfolding fit
       fits = rw (le-leb _ _ w, h)
 
-      pub in-order : Fit s
-      in-order = fit-true s fits
+      pub a-reader : Fit s
+      a-reader = fit-true s fits
 
       pub no-room : length o < 776 → res 24 o s ≡ readOf s f o
       unfolding formed

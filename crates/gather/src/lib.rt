@@ -1,4 +1,7 @@
 // The reader on lent bytes: start, and one packet.
+use shelf::BYTES;
+use shelf::MARK;
+use shelf::MARK_AT;
 use streams::CLOSING;
 use streams::OPENING;
 use track::Move;
@@ -7,100 +10,76 @@ ghost use mathlib.Core.Path.{_≡_};
 ghost use mathlib.Core.Bool.{true};
 ghost use Prim.Native.Nat.{_+_, _*_, _-_, _<_, _≤_};
 ghost use lib.ListN.{length, drop};
-ghost use Rattle.wire.specs.Wire.{part, put};
+ghost use lib.Dec.{eqb};
+ghost use Rattle.wire.specs.Wire.{be16, part, put};
 ghost use Rattle.paper.specs.Streams as Streams;
 ghost use Rattle.paper.specs.Reader as Reader;
 ghost use Rattle.paper.specs.Status.{bit};
 ghost use Rattle.state.specs.Told.{told, res};
-ghost use Rattle.shelf.specs.Layout.{gatherAt, readerBytes};
+ghost use Rattle.shelf.specs.Layout.{markAt, readerMark, gatherAt, readerBytes};
 ghost use Rattle.shelf.specs.Range as Range;
-ghost use Rattle.shelf.specs.Fresh.{startedOn, startOf};
+ghost use Rattle.shelf.specs.Fresh.{freshOn, startOf};
 ghost use Rattle.shelf.specs.Received.{recordedOn, readOf};
 ghost use Rattle.shelf.specs.Formed.{handsTo, arrivedTo};
 
-// The records of streams 0 to 11, fresh: last count 4095, the last place, no gathering.
-const FRESH: [u8; 48] = [
-    0x0F,
-    0xFF,
-    0,
-    0,
-    0x0F,
-    0xFF,
-    0,
-    0,
-    0x0F,
-    0xFF,
-    6,
-    0,
-    0x0F,
-    0xFF,
-    0,
-    0,
-    0x0F,
-    0xFF,
-    0,
-    0,
-    0x0F,
-    0xFF,
-    0,
-    0,
-    0x0F,
-    0xFF,
-    0,
-    0,
-    0x0F,
-    0xFF,
-    0,
-    0,
-    0x0F,
-    0xFF,
-    0,
-    0,
-    0x0F,
-    0xFF,
-    0,
-    0,
-    0x0F,
-    0xFF,
-    0,
-    0,
-    0x0F,
-    0xFF,
-    4,
-    0,
-];
-
-// Whether the numbers of a stream's record are in range.
-fn track_fits(s: &[u8], stream: u8) -> bool
-    requires { ⌜ (readerBytes ≤ length (now s)) × (stream < 12) ⌝ }
-    ensures { λ r. ⌜ r ≡ Range.trackFits (now (s .entry)) stream ⌝ }
+// Whether lent bytes begin with the reader's mark.
+fn is_reader(s: &[u8]) -> bool
+    requires { ⌜ readerBytes ≤ length (now s) ⌝ }
+    ensures { λ r. ⌜ r ≡ eqb (be16 (now (s .entry)) markAt) readerMark ⌝ }
 {
-    let at = 4 * wire::size(stream);
-    (wire::get16(s, at) < 4096)
-        & ((wire::size(s[at + 2]) < streams::pieces(stream)) & (s[at + 3] <= 1))
+    wire::get16(s, MARK_AT) == MARK
 }
 
-// Whether every carried stream's are.
-fn in_range(s: &[u8]) -> bool
-    requires { ⌜ readerBytes ≤ length (now s) ⌝ }
-    ensures { λ r. ⌜ r ≡ Range.inRange (now (s .entry)) ⌝ }
+// The record of a stream, anew.
+fn note(s: &mut [u8], stream: u8, t: Track)
+    requires { ⌜ (readerBytes ≤ length (now s)) × (stream < 12) ⌝ }
+    ensures { λ _. ⌜ now (s .exit) ≡ recordedOn (now (s .entry)) stream (t .last) (t .place) (bit (t .running)) ⌝ }
 {
-    track_fits(s, 2)
-        & (track_fits(s, 4)
-            & (track_fits(s, 5)
-                & (track_fits(s, 6)
-                    & (track_fits(s, 9) & (track_fits(s, 10) & track_fits(s, 11))))))
+    let at = shelf::record_at(stream);
+    let runs = t.running as u8;
+    let run = [wire::hi(t.last), wire::lo(t.last), t.place, runs];
+    wire::copy_to(s, at, &run);
+}
+
+// The last place of a stream's packet, 0 where the stream is not carried.
+fn last_place(stream: u8) -> u8
+    ensures { λ r. ⌜ r ≡ Streams.pieces stream - 1 ⌝ }
+{
+    let pieces = streams::pieces(stream);
+    if pieces == 0 {
+        return 0;
+    }
+    (pieces - 1) as u8
+}
+
+// The records of all streams, fresh: last count 4095, the last place, no gathering.
+fn fresh_records(s: &mut [u8])
+    requires { ⌜ readerBytes ≤ length (now s) ⌝ }
+    ensures { λ _. ⌜ now (s .exit) ≡ freshOn (now (s .entry)) 12 ⌝ }
+{
+    let mut stream: u8 = 0;
+    while stream < 12 {
+        let place = last_place(stream);
+        let t = Track {
+            last: 4095,
+            place,
+            running: false,
+        };
+        note(s, stream, t);
+        stream += 1;
+    }
 }
 
 // Fresh bytes: 0, or 25 where they are too few.
 pub fn start(s: &mut [u8]) -> u8
     ensures { λ r. ⌜ told r (now (s .exit)) ≡ startOf (now (s .entry)) ⌝ }
 {
-    if s.len() < 9960 {
+    if s.len() < BYTES {
         return 25;
     }
-    wire::fill(s, 0, 9960, 0);
-    wire::copy_to(s, 0, &FRESH);
+    wire::fill(s, 0, BYTES, 0);
+    wire::set16(s, MARK_AT, MARK);
+    fresh_records(s);
     0
 }
 
@@ -135,7 +114,7 @@ fn sound(s: &[u8], stream: u8) -> bool
     requires { ⌜ (readerBytes ≤ length (now s)) × (Streams.carried stream ≡ true) ⌝ }
     ensures { λ r. ⌜ r ≡ Reader.sound stream (part (now (s .entry)) (gatherAt stream) (118 * Streams.pieces stream)) ⌝ }
 {
-    let at = 48 + 826 * wire::size(stream);
+    let at = shelf::gather_at(stream);
     let end = at + wire::size16(streams::listed(stream));
     let marks = (s[at] == OPENING[0])
         & ((s[at + 1] == OPENING[1]) & ((s[end - 2] == CLOSING[0]) & (s[end - 1] == CLOSING[1])));
@@ -145,29 +124,13 @@ fn sound(s: &[u8], stream: u8) -> bool
     filled(s, end, at + 118 * streams::pieces(stream))
 }
 
-// The record of a stream, anew.
-fn note(s: &mut [u8], stream: u8, t: Track)
-    requires { ⌜ (readerBytes ≤ length (now s)) × (stream < 12) ⌝ }
-    ensures { λ _. ⌜ now (s .exit) ≡ recordedOn (now (s .entry)) stream (t .last) (t .place) (bit (t .running)) ⌝ }
-{
-    let at = 4 * wire::size(stream);
-    let mark = t.running as u8;
-    let run = [wire::hi(t.last), wire::lo(t.last), t.place, mark];
-    wire::copy_to(s, at, &run);
-}
-
 // The body of a packet stands at its place.
 fn keep(s: &mut [u8], stream: u8, place: u8, f: &[u8])
     requires { ⌜ (readerBytes ≤ length (now s)) × (stream < 12) × (place < 7) × (length (now f) ≡ 126) ⌝ }
     ensures { λ _. ⌜ now (s .exit) ≡ put (now (s .entry)) (gatherAt stream + 118 * place) (drop 8 (now (f .entry))) ⌝ }
 {
-    wire::copy_part(
-        s,
-        48 + 826 * wire::size(stream) + 118 * wire::size(place),
-        f,
-        8,
-        118,
-    );
+    let at = shelf::gather_at(stream);
+    wire::copy_part(s, at + 118 * wire::size(place), f, 8, 118);
 }
 
 // A whole packet is handed out at its listed length, or refused with 23.
@@ -179,7 +142,7 @@ fn hand_out(s: &[u8], stream: u8, out: &mut [u8]) -> u8
         return 23;
     }
     let n = wire::size16(streams::listed(stream));
-    wire::copy_part(out, 0, s, 48 + 826 * wire::size(stream), n);
+    wire::copy_part(out, 0, s, shelf::gather_at(stream), n);
     1
 }
 
@@ -188,9 +151,11 @@ fn receive(s: &mut [u8], stream: u8, count: u16, f: &[u8], out: &mut [u8]) -> u8
     requires { ⌜ (Range.Fit (now s)) × (Streams.carried stream ≡ true) × (count < 4096) × (length (now f) ≡ 126) × (776 ≤ length (now out)) ⌝ }
     ensures { λ r. ⌜ res r (now (out .exit)) (now (s .exit)) ≡ arrivedTo (now (s .entry)) stream count (drop 8 (now (f .entry))) (now (out .entry)) ⌝ }
 {
-    let at = 4 * wire::size(stream);
+    let at = shelf::record_at(stream);
     let pieces = streams::pieces(stream) as u8;
-    let m = track::advance(wire::get16(s, at), s[at + 2], s[at + 3] == 1, pieces, count);
+    let last = wire::get16(s, at) % 4096;
+    let place = s[at + 2] % pieces;
+    let m = track::advance(last, place, s[at + 3] == 1, pieces, count);
     let t = m.track;
     let step = m.step;
     match step {
@@ -216,10 +181,10 @@ fn receive(s: &mut [u8], stream: u8, count: u16, f: &[u8], out: &mut [u8]) -> u8
 pub fn packet(s: &mut [u8], f: &[u8], out: &mut [u8]) -> u8
     ensures { λ r. ⌜ res r (now (out .exit)) (now (s .exit)) ≡ readOf (now (s .entry)) (now (f .entry)) (now (out .entry)) ⌝ }
 {
-    if s.len() < 9960 {
+    if s.len() < BYTES {
         return 25;
     }
-    if !in_range(s) {
+    if !is_reader(s) {
         return 25;
     }
     if out.len() < 776 {

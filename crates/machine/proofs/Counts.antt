@@ -333,7 +333,7 @@ module _ (s : List ℕ) (f : Fit s) (x : List ℕ) (e : length x ≡ 58) where
       let impact = impact-apart s housedAt x housed-fits w (f .place) (inr (omega arith)) (inl (omega arith)) in
       let tallies = tallies-apart s housedAt x housed-fits w (inr (omega arith)) in
       let housed = part-put-same s housedAt x housed-fits 58 e in
-      let opened = opened-apart s housedAt x housed-fits w f (inl (omega arith)) in
+      let opened = opened-apart s housedAt x housed-fits w (inl (omega arith)) in
       let counts = counts-apart s housedAt x housed-fits w (inl (omega arith)) in
       let first = first-apart s housedAt x housed-fits w (inr (omega arith)) in
       let waiting = waiting-apart s housedAt x housed-fits w (inr (omega arith)) in
@@ -359,4 +359,3 @@ module _ (s : List ℕ) (f : Fit s) (x : List ℕ) (e : length x ≡ 58) where
       (put-same s housedAt x housed-fits _ _ (inr (omega arith)))
       (omega (arith, first-apart s housedAt x housed-fits w (inr (omega arith))))
       (omega (arith, waiting-apart s housedAt x housed-fits w (inr (omega arith))))
-      (λ t h. inl (getD-put-after s housedAt x housed-fits (openAt t) (omega arith)))

@@ -14,11 +14,11 @@ use Rattle.wire.proofs.Runs.{length-part, getD-part, length-put, getD-put-befor
 use Rattle.impact.specs.Window.{windowOf}
 use Rattle.paper.specs.Mode.{modeOf}
 use Rattle.paper.specs.Controller.{nothingOpen, start}
-use Rattle.state.specs.Layout.{nibbleAt, flagAt, windowAt, placeAt, furtherAt, firstAt, waitingAt, housedAt, streams, countAt, openAt, staysOpen, ringAt, stateBytes}
-use Rattle.state.specs.View.{clockIn, standingIn, collectionOf, ringFrom, impactIn, talliesIn, openOf, openIn, countIn, piecesIn, view}
+use Rattle.state.specs.Layout.{nibbleAt, flagAt, windowAt, placeAt, furtherAt, firstAt, waitingAt, housedAt, streams, countAt, openAt, ringAt, stateBytes}
+use Rattle.state.specs.View.{clockIn, standingIn, collectionOf, ringFrom, impactIn, talliesIn, openIn, countIn, piecesIn, view}
 use Rattle.state.specs.Range.{Fit}
 use Rattle.state.specs.Fresh.{zeros, startedOn}
-use Rattle.state.proofs.Apart.{open-room}
+use Rattle.state.proofs.Apart.{shut-open}
 use Rattle.machine.proofs.Entries.{getD-zeros, ring-zeros}
 
 pub length-zeros : length zeros ≡ stateBytes
@@ -63,10 +63,6 @@ module _ (x : List ℕ) (z : Blank x) where
         further = omega (arith, word furtherAt (omega arith) (omega arith));
         first = omega (arith, byte firstAt (omega arith) (omega arith));
         waiting = omega (arith, byte waitingAt (omega arith) (omega arith));
-        open4 = omega (arith, byte (openAt 4) (omega arith) (omega arith));
-        open5 = omega (arith, byte (openAt 5) (omega arith) (omega arith));
-        open6 = omega (arith, byte (openAt 6) (omega arith) (omega arith));
-        open9 = omega (arith, byte (openAt 9) (omega arith) (omega arith));
       }
 
   blank-housed : part x housedAt 58 ≡ replicate 58 0
@@ -77,14 +73,7 @@ module _ (x : List ℕ) (z : Blank x) where
       getD-part x housedAt 58 i (omega arith) ∙ byte (housedAt + i) (omega arith) (omega arith) ∙ sym (getD-zeros 58 i))
 
   blank-opened : openIn x ≡ (λ t. nothingOpen)
-  unfolding openIn
-  blank-opened = fun-ext (λ t. at t (staysOpen t) refl)
-    where
-      at : (t : ℕ) (b : Bool) → staysOpen t ≡ b → cond b (openOf x t (getD x (openAt t) 0)) nothingOpen ≡ nothingOpen
-      at t true e =
-          let room = open-room x blank-fit t e in
-          ap (openOf x t) (byte (openAt t) (omega arith) (omega arith))
-      at t false e = refl
+  blank-opened = fun-ext (λ t. shut-open x t (λ l. byte (openAt t) (omega arith) (omega arith)))
 
   blank-counts : countIn x ≡ (λ t. 0)
   unfolding countIn

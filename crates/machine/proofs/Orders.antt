@@ -3,18 +3,18 @@
 use mathlib.Core.Path.{_≡_, refl}
 use mathlib.Core.List.{List}
 use Prim.Native.Nat.{ℕ, _<_}
-use lib.ListN.{getD}
 use Rattle.paper.specs.Commands.{Request, clear, housekeeping, setMode}
+use Rattle.paper.specs.Streams.{hk}
 use Rattle.paper.specs.Acts.{obeyed}
-use Rattle.state.specs.Layout.{waitingAt}
 use Rattle.state.specs.View.{view}
 use Rattle.state.specs.Range.{Fit}
+use Rattle.machine.specs.Stores.{Free}
 use Rattle.machine.specs.Obeyed.{obeyedOn}
 use Rattle.machine.proofs.Queue.{cleared-view, cleared-fit}
 use Rattle.machine.proofs.Sent.{housekept-view}
 use Rattle.machine.proofs.Entries.{commanded-view, commanded-fit}
 
-pub obeyed-view : (s : List ℕ) (q : Request) → Fit s → (q ≡ housekeeping → getD s waitingAt 0 < 48)
+pub obeyed-view : (s : List ℕ) (q : Request) → Fit s → (q ≡ housekeeping → Free s hk)
     → ((v : ℕ) → q ≡ setMode v → v < 16) → (view (obeyedOn s q) ≡ obeyed (view s) q) × Fit (obeyedOn s q)
 unfolding obeyedOn obeyed
 obeyed-view s (clear mask) f room small = (cleared-view s mask f, cleared-fit s mask f)

@@ -19,17 +19,18 @@ use Rattle.paper.specs.Mode.{nibble, same, ruled}
 use Rattle.paper.specs.Impact.{above, declares}
 use Rattle.paper.specs.Commands.{names, Request, clear, housekeeping, setMode, Decoded, request, refusal, decoded}
 use Rattle.paper.specs.Frames.{Channel, cdmuA, cdmuB, Frame, broadcast, command, tick, sample, poll, status, analogue, faulty, byte, kind, onChannel, frameOf}
-use Rattle.paper.specs.Streams.{acc-i, acc-e, hk, pieces, perPacket, width}
+use Rattle.paper.specs.Streams.{acc-i, hk, pieces, perPacket, width}
 use Rattle.paper.specs.Streams as table
-use Rattle.paper.specs.Packets.{dataOf, datastream, filled}
+use Rattle.paper.specs.Packets.{dataOf, datastream, modeByte, filled}
 use Rattle.paper.specs.Controller.{raised, raised8, stampNow}
 use Rattle.paper.specs.Housekeeping.{housekeepingPacket}
 use Rattle.paper.specs.Acts.{impactPacket}
 use Rattle.paper.specs.Step.{holds, reply, isError}
+use Rattle.paper.proofs.Table.{carried-small, sampled-carried}
 use Rattle.paper.proofs.Shapes.{Rows, through}
 use Rattle.paper.proofs.Refusals.{Passed, passed}
-use Rattle.state.specs.Layout.{timeAt, mAt, nibbleAt, flagAt, impactTimeAt, windowAt, placeAt, furtherAt, commandsAt, broadcastsAt, packetsAt, telemetryAt, errorsAt, sequenceAt, firstAt, waitingAt, housedAt, streams, countAt, openAt, samplesAt, ringAt, slotAt, stateBytes}
-use Rattle.state.specs.View.{clockIn, standingIn, impactIn, samplesIn, view}
+use Rattle.state.specs.Layout.{timeAt, mAt, nibbleAt, flagAt, impactTimeAt, windowAt, placeAt, furtherAt, commandsAt, broadcastsAt, packetsAt, telemetryAt, errorsAt, sequenceAt, firstAt, waitingAt, housedAt, streams, countAt, openAt, samplesAt, staysOpen, ringAt, slotAt, stateBytes}
+use Rattle.state.specs.View.{clockIn, standingIn, impactIn, samplesIn, heldIn, view}
 use Rattle.state.specs.Range.{Fit, fit}
 use Rattle.state.specs.Fresh.{zeros, startedOn}
 use Rattle.state.specs.Told.{Told, Res}
@@ -46,7 +47,7 @@ use Rattle.machine.specs.Called.{actedOn, refusedOn, repliedOn, stepOf, 
 use Rattle.machine.proofs.Entries.{length-noRing}
 use Rattle.machine.proofs.Counts.{broadcasts-at, packets-at, telemetry-at}
 use Rattle.machine.proofs.Ticks.{counted-fit}
-use Rattle.machine.proofs.Samples.{room, stays-open}
+use Rattle.machine.proofs.Samples.{room}
 use Rattle.machine.proofs.Fresh.{length-zeros}
 
 -- ---- lists that agree past the state
@@ -153,9 +154,9 @@ pub full-past : (s : List ℕ) (t : ℕ) → t < streams → stateBytes ≤ leng
 unfolding fullOn
 full-past s t = sent-past s t (datastream (stampIn s t) (dataOf t (samplesIn s t (perPacket t))))
 
-pub single-past : (s x : List ℕ) → stateBytes ≤ length s → Past (singleOn s x) s
+pub single-past : (s : List ℕ) (t : ℕ) (x : List ℕ) → t < streams → stateBytes ≤ length s → Past (singleOn s t x) s
 unfolding singleOn
-single-past s x = sent-past s acc-e (datastream (stampNow (view s) acc-e) (dataOf acc-e (x ∷ []))) (omega arith)
+single-past s t x = sent-past s t (datastream (stampNow (view s) t) (dataOf t (x ∷ [])))
 
 -- ---- counts and entries
 
@@ -212,7 +213,7 @@ further-past s n = past-put s furtherAt (bytes16 n) (omega arith)
 pub declared-past : (s : List ℕ) → stateBytes ≤ length s → Past (declaredOn s) s
 unfolding declaredOn
 declared-past s w =
-    past-then w (past-put s flagAt (1 ∷ (bytes24 (now (clockIn s)) ++ (getD s nibbleAt 0 ∷ []))) (omega arith) w)
+    past-then w (past-put s flagAt (1 ∷ (bytes24 (now (clockIn s)) ++ (modeByte acc-i (getD s nibbleAt 0) ∷ []))) (omega arith) w)
     (further-past _ 1)
 
 pub detected-past : (s : List ℕ) → stateBytes ≤ length s → Past (detectedOn s) s
@@ -245,31 +246,33 @@ ticked-past s r f =
 pub stamped-past : (s : List ℕ) (t : ℕ) → t < streams → stateBytes ≤ length s → Past (stampedOn s t) s
 unfolding stampedOn
 stamped-past s t l w =
-    past-either (eqb (getD s (openAt t) 0) 0) (past-put s (openAt t + 1) (bytes24 (now (clockIn s)) ++ (getD s nibbleAt 0 ∷ [])) (omega arith) w) (past-refl s)
+    past-either (eqb (heldIn s t) 0)
+    (past-put s (openAt t + 1) (bytes24 (now (clockIn s)) ++ (modeByte t (getD s nibbleAt 0) ∷ [])) (omega arith) w) (past-refl s)
 
 -- a stream's open packet has room for the sample
-module _ (s : List ℕ) (t : ℕ) (x : List ℕ) (l : t < streams) (h : getD s (openAt t) 0 * width t + length x ≤ 145) where
+module _ (s : List ℕ) (t : ℕ) (x : List ℕ) (l : t < streams) (h : heldIn s t * width t + length x ≤ 145) where
   pub stored-past : stateBytes ≤ length s → Past (storedOn s t x) s
   unfolding storedOn
   stored-past w =
-      past-then w (stamped-past s t l w) (past-put _ (samplesAt t + getD s (openAt t) 0 * width t) x (omega arith))
+      past-then w (stamped-past s t l w) (past-put _ (samplesAt t + heldIn s t * width t) x (omega arith))
 
   pub kept-past : stateBytes ≤ length s → Past (keptOn s t x) s
   unfolding keptOn
   kept-past w =
       let stored = stored-past w in
-      past-either (eqb (getD s (openAt t) 0 + 1) (perPacket t))
+      past-either (eqb (heldIn s t + 1) (perPacket t))
       (past-then w (past-then w stored (full-past (storedOn s t x) t l)) (past-put _ (openAt t) (0 ∷ []) (omega arith)))
-      (past-then w stored (past-put _ (openAt t) ((getD s (openAt t) 0 + 1) ∷ []) (omega arith)))
+      (past-then w stored (past-put _ (openAt t) ((heldIn s t + 1) ∷ []) (omega arith)))
 
 pub sampled-past : (s : List ℕ) (t : ℕ) (x : List ℕ) → Fit s → table.sampled t ≡ true → length x ≡ width t
     → Past (sampledOn s t x) s
 unfolding sampledOn
 sampled-past s t x f carried long =
-    either (λ (r : List ℕ). Past r s) (eqb t acc-e) _ _ (λ e. single-past s x (f .whole))
+    either (λ (r : List ℕ). Past r s) (staysOpen t) _ _
     (λ e.
-    let r = room s f t (stays-open t carried e) in
+    let r = room s t e in
     kept-past s t x (r .small) (omega arith) (f .whole))
+    (λ e. single-past s t x (carried-small t (sampled-carried t carried)) (f .whole))
 
 -- ---- commands
 

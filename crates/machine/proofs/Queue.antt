@@ -22,10 +22,10 @@ use Rattle.paper.specs.Queue.{Piece, piece, wrap, numbered, after, without}
 use Rattle.paper.specs.Controller.{nothingOpen, withStreams, queued}
 use Rattle.paper.specs.Acts.{cleared}
 use Rattle.paper.specs.Queue as paper
-use Rattle.state.specs.Layout.{firstAt, waitingAt, housedAt, streams, countAt, openAt, staysOpen, ringAt, slotsAt, slotAt, stateBytes}
-use Rattle.state.specs.View.{openOf, openIn, countIn, pieceIn, piecesIn, view}
+use Rattle.state.specs.Layout.{firstAt, waitingAt, housedAt, streams, countAt, openAt, ringAt, slotsAt, slotAt, stateBytes}
+use Rattle.state.specs.View.{openIn, countIn, pieceIn, piecesIn, view}
 use Rattle.state.specs.Range.{Fit}
-use Rattle.state.proofs.Apart.{Same, same-refl, same-trans, same-within, Outside, put-same, count-where, counts-same, open-room, opened-same, open-where, pieces-same, pieces-apart, pieces-apart-slot, streams-same, fit-same}
+use Rattle.state.proofs.Apart.{Same, same-refl, same-trans, same-within, Outside, put-same, count-where, counts-same, shut-open, opened-same, open-where, pieces-same, pieces-apart, pieces-apart-slot, streams-same, fit-same}
 use Rattle.state.proofs.Pieces.{length-pieces, pieces-round, pieces-snoc, piece-bytes, piece-stored, piece-of}
 use Rattle.machine.specs.Stores.{slot, laid, queuedOn, droppedOn, Swept, sweep, shut, clearedOn}
 
@@ -181,7 +181,6 @@ module _ (s : List ℕ) (t k : ℕ) (x : List ℕ) (fit : Fit s) (known : t < st
       let q = queued-bytes in
       fit-same (queuedOn s t k x) s fit (omega (arith, q .kept)) (same-within 0 firstAt (q .below) (omega arith) (omega arith))
       (omega (arith, q .below .byte firstAt (omega arith) (omega arith))) (omega (arith, q .waits))
-      (λ u l. inl (q .above .byte (openAt u) (omega arith) (omega arith)))
 
   -- all of it
   pub queued-view :
@@ -193,7 +192,7 @@ module _ (s : List ℕ) (t k : ℕ) (x : List ℕ) (fit : Fit s) (known : t < st
       let q = queued-bytes in
       let r : List ℕ = queuedOn s t k x in
       let opened : openIn r ≡ openIn s =
-      opened-same r s queued-fit (fit .whole) (same-within (openAt 0) ringAt (q .above) (omega arith) (omega arith)) in
+      opened-same r s (omega (arith, q .kept)) (fit .whole) (same-within (openAt 0) ringAt (q .above) (omega arith) (omega arith)) in
       streams-same r s fit (omega (arith, q .kept)) (same-within 0 firstAt (q .below) (omega arith) (omega arith))
       (same-within housedAt (countAt 0) (q .between) (omega arith) (omega arith))
       (same-within ringAt slotsAt (q .above) (omega arith) (omega arith))
@@ -261,7 +260,6 @@ module _ (s : List ℕ) (fit : Fit s) where
   dropped-fit =
       fit-same (droppedOn s) s fit (omega (arith, dropped-whole)) (dropped-same 0 firstAt (inr (omega arith)))
       (omega (arith, dropped-first)) (omega (arith, dropped-waits))
-      (λ u l. inl (dropped-same (openAt u) (openAt u + 1) (inl (omega arith)) .byte (openAt u) (omega arith) (omega arith)))
 
   pub dropped-view : (p : Piece (List ℕ)) (rest : List (Piece (List ℕ))) → view s .queue ≡ p ∷ rest
       → view (droppedOn s) ≡ withStreams (view s) (view s .opened) (view s .counts) rest
@@ -274,7 +272,7 @@ module _ (s : List ℕ) (fit : Fit s) where
       pieces-round s ((getD s firstAt 0 + 1) % 48) (getD s firstAt 0 + 1) (getD s waitingAt 0 - 1) (omega arith) in
       let queue : piecesIn r (getD r firstAt 0) (getD r waitingAt 0) ≡ rest =
       rw (dropped-first, dropped-waits, dropped-pieces) (round ∙ left) in
-      let opened : openIn r ≡ openIn s = opened-same r s dropped-fit (fit .whole) (dropped-same (openAt 0) ringAt (inl (omega arith))) in
+      let opened : openIn r ≡ openIn s = opened-same r s (omega (arith, dropped-whole)) (fit .whole) (dropped-same (openAt 0) ringAt (inl (omega arith))) in
       let counts : countIn r ≡ countIn s = counts-same r s (dropped-same (countAt 0) (openAt 0) (inl (omega arith))) in
       streams-same r s fit (omega (arith, dropped-whole)) (dropped-same 0 firstAt (inr (omega arith)))
       (dropped-same housedAt (countAt 0) (inl (omega arith))) (dropped-same ringAt slotsAt (inl (omega arith)))
@@ -500,26 +498,14 @@ module _ (s : List ℕ) (mask : ℕ) (fit : Fit s) where
       let q = clears in
       let first = q .under 0 waitingAt (omega arith) .byte firstAt (omega arith) (omega arith) in
       fit-same (clearedOn s mask) s fit (omega (arith, q .kept)) (q .under 0 firstAt (omega arith)) (omega arith)
-      (omega (arith, q .fewer)) (λ t l. at t l (names mask t) refl)
-    where
-      at : (t : ℕ) → t < streams → (b : Bool) → names mask t ≡ b
-          → (getD (clearedOn s mask) (openAt t) 0 ≡ getD s (openAt t) 0) ⊎ (getD (clearedOn s mask) (openAt t) 0 ≡ 0)
-      at t l true e = inr (clears .gone t l e)
-      at t l false e = inl (clears .other t l e .byte (openAt t) (omega arith) (omega arith))
+      (omega (arith, q .fewer))
 
   pub cleared-open : (t : ℕ) → openIn (clearedOn s mask) t ≡ cond (names mask t) nothingOpen (openIn s t)
-  unfolding openIn
   cleared-open t = at (names mask t) refl
     where
-      shut-there : names mask t ≡ true → (b : Bool) → staysOpen t ≡ b
-          → cond b (openOf (clearedOn s mask) t (getD (clearedOn s mask) (openAt t) 0)) nothingOpen ≡ nothingOpen
-      shut-there e true o =
-          ap (openOf (clearedOn s mask) t) (clears .gone t (open-room (clearedOn s mask) cleared-fit t o .0) e)
-      shut-there e false o = refl
-
       at : (b : Bool) → names mask t ≡ b → openIn (clearedOn s mask) t ≡ cond b nothingOpen (openIn s t)
-      at true e = shut-there e (staysOpen t) refl
-      at false e = open-where (clearedOn s mask) s cleared-fit (fit .whole) t (λ l. clears .other t l e)
+      at true e = shut-open (clearedOn s mask) t (λ l. clears .gone t l e)
+      at false e = open-where (clearedOn s mask) s (omega (arith, clears .kept)) (fit .whole) t (λ l. clears .other t l e)
 
   pub cleared-view : view (clearedOn s mask) ≡ cleared (view s) mask
   unfolding view cleared

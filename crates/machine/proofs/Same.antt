@@ -14,7 +14,7 @@ use Rattle.paper.specs.Clock.{Clock}
 use Rattle.paper.specs.Mode.{Standing}
 use Rattle.paper.specs.Impact.{Impact}
 use Rattle.paper.specs.Controller.{Tallies, Controller, withClock, withStanding, withImpact, withTallies}
-use Rattle.state.specs.Layout.{mAt, nibbleAt, flagAt, windowAt, placeAt, furtherAt, firstAt, waitingAt, openAt, ringAt, slotsAt, stateBytes}
+use Rattle.state.specs.Layout.{mAt, nibbleAt, flagAt, windowAt, placeAt, furtherAt, firstAt, waitingAt, ringAt, slotsAt, stateBytes}
 use Rattle.state.specs.View.{clockIn, standingIn, impactIn, talliesIn, piecesIn, view}
 use Rattle.state.specs.Range.{Fit}
 use Rattle.state.proofs.Apart.{Same, Outside, put-same, clock-apart, standing-apart, impact-apart, tallies-apart, same-sym, same-within, be16-same, clock-same, standing-same, impact-same, tallies-same, counts-same, opened-same, housed-same, pieces-same}
@@ -48,7 +48,7 @@ module _ (x y : List ℕ) (f : Fit y) (whole : stateBytes ≤ length x) (p : Sam
   unfolding view
   view-headed q clock standing impact tallies =
       let housed = housed-same x y whole (f .whole) (same-within _ _ p (omega arith) (omega arith)) in
-      let opened = sym (opened-same y x f whole (same-sym (same-within _ _ p (omega arith) (omega arith)))) in
+      let opened = opened-same x y whole (f .whole) (same-within _ _ p (omega arith) (omega arith)) in
       let counts = counts-same x y (same-within _ _ p (omega arith) (omega arith)) in
       let queue = queue-kept q in
       λ j.
@@ -77,10 +77,6 @@ module _ (x y : List ℕ) (f : Fit y) (whole : stateBytes ≤ length x) (p : Sam
         further = further;
         first = omega (arith, p .byte firstAt (omega arith) (omega arith));
         waiting = omega (arith, p .byte waitingAt (omega arith) (omega arith));
-        open4 = omega (arith, p .byte (openAt 4) (omega arith) (omega arith));
-        open5 = omega (arith, p .byte (openAt 5) (omega arith) (omega arith));
-        open6 = omega (arith, p .byte (openAt 6) (omega arith) (omega arith));
-        open9 = omega (arith, p .byte (openAt 9) (omega arith) (omega arith));
       }
 
 -- ---- bytes past the state do not matter

@@ -13,10 +13,10 @@ use lib.Seq.{getD-drop}
 use Rattle.wire.specs.Wire.{be16, put}
 use Rattle.paper.specs.Frames.{Channel, Frame, broadcast, command, tick, sample, poll, status, analogue, faulty, frameOf}
 use Rattle.paper.specs.Commands.{Request, clear, housekeeping, setMode, Decoded, request, refusal, outside, decoded}
-use Rattle.paper.specs.Streams.{rowOf, width}
+use Rattle.paper.specs.Streams.{acc-i, hk, width}
 use Rattle.paper.specs.Controller.{Controller, start}
 use Rattle.paper.specs.Acts.{moved, noted, obeyed, performed, accepted, answer}
-use Rattle.paper.specs.Step.{holds, reply, isError, queues, lateHeard, erred, refused, Outcome, outcome, replied, step}
+use Rattle.paper.specs.Step.{holds, reply, isError, crowded, queues, lateHeard, erred, refused, Outcome, outcome, replied, step}
 use Rattle.paper.specs.Runs.{runs}
 use Rattle.paper.specs.History.{history, sentBy, Counted}
 use Rattle.paper.proofs.History.{counted}
@@ -39,7 +39,8 @@ use Rattle.machine.proofs.Counts.{late-view, late-fit, noted-view, note
 use Rattle.machine.proofs.Broadcasts.{heard-view, heard-fit, moved-view, moved-fit}
 use Rattle.machine.proofs.Orders.{obeyed-view}
 use Rattle.machine.proofs.Ticks.{ticked-view}
-use Rattle.machine.proofs.Samples.{slots-free, sampled-view}
+use Rattle.machine.proofs.Sent.{free-room}
+use Rattle.machine.proofs.Samples.{sampled-view}
 use Rattle.machine.proofs.Polls.{polled-view}
 use Rattle.machine.proofs.Fresh.{start-view, start-fit}
 
@@ -120,7 +121,7 @@ module _ (s : List ℕ) (f : Fit s) where
 
   -- a command's request, where there is room for what it queues
   performs : (c : Channel) (id sequence : ℕ) (parameters : List ℕ) (d : Decoded) → decoded id parameters ≡ d
-      → (queues d && ltb (48 - length (view s .queue)) 1) ≡ false
+      → (queues d && crowded (view s) hk) ≡ false
       → Holds (performedOn (notedOn s c id sequence) d) (performed (noted (view s) c id sequence) d)
   unfolding performedOn performed noted
   performs c id sequence parameters (refusal n) e room = (noted-view s f c id sequence, noted-fit s f c id sequence)
@@ -131,12 +132,12 @@ module _ (s : List ℕ) (f : Fit s) where
       sym (queue-length n) ∙ ap (λ (x : Controller). length (x .queue)) seen ∙ queue-length s in
       let done =
       obeyed-view n q (noted-fit s f c id sequence)
-      (λ h. let free = slots-free s 1 (omega arith) (both-false (queues (request q)) _ (ap (λ (r : Request). queues (request r)) h) room) in omega (arith, waits, free))
+      (λ h. let free = free-room s hk f (both-false (queues (request q)) _ (ap (λ (r : Request). queues (request r)) h) room) in omega (arith, waits, free))
       (λ v h. mode-small id parameters v (e ∙ ap request h)) in
       (done .0 ∙ ap (λ (x : Controller). obeyed x q) seen, done .1)
 
   pub acted-view : (x : Frame) (room : ℕ) → Shaped x → Passed (view s) x room → Holds (actedOn s x) (accepted (view s) x)
-  unfolding actedOn accepted rowOf
+  unfolding actedOn accepted
   acted-view (broadcast c time altitude spin phase) room h p =
       let heard = heard-fit s f c time altitude spin phase in (
         moved-view (heardOn s c time altitude spin phase) heard ∙ ap moved (heard-view s f c time altitude spin phase),
@@ -144,7 +145,7 @@ module _ (s : List ℕ) (f : Fit s) where
       )
   acted-view (command c id sequence parameters) room h p = performs c id sequence parameters (decoded id parameters) refl (p .roomy)
   acted-view (tick r) room h p =
-      ticked-view s r f (omega (arith, ltb-false 4095 r (p .ranged))) (λ e. slots-free s 7 (omega arith) (both-false _ _ e (p .roomy)))
+      ticked-view s r f (omega (arith, ltb-false 4095 r (p .ranged))) (λ e. free-room s acc-i f (both-false _ _ e (p .roomy)))
   acted-view (sample t x) room h p =
       sampled-view s t x f h (not-false _ (p .carries)) (eqb-true (length x) (width t) (not-false _ (p .sized))) (p .ranged) (p .roomy)
   acted-view (poll c) room h p =

@@ -24,12 +24,14 @@ use Rattle.paper.specs.Clock.{secondsOf, ticked, now}
 use Rattle.paper.specs.Mode.{surface, modeOf, nibble}
 use Rattle.paper.specs.Impact.{above, declares, rung, Stamp, Impact}
 use Rattle.paper.specs.Streams.{acc-i}
+use Rattle.paper.specs.Packets.{modeByte}
 use Rattle.paper.specs.Controller.{Controller, withClock, withImpact, stampNow, queued}
 use Rattle.paper.specs.Acts.{enter, counted, inProximity, last, completes, taken, detected, watched, ended, impactPacket, completed, watching, ticks}
 use Rattle.state.specs.Layout.{mAt, nibbleAt, flagAt, impactTimeAt, impactModeAt, windowAt, placeAt, furtherAt, commandsAt, firstAt, waitingAt, housedAt, countAt, openAt, ringAt, slotsAt, stateBytes}
 use Rattle.state.specs.View.{clockIn, standingIn, collectionOf, ringFrom, impactIn, piecesIn, view}
 use Rattle.state.specs.Range.{Fit}
 use Rattle.state.proofs.Apart.{Same, same-sym, same-trans, same-within, put-same, be16-same, be24-same, clock-same, standing-same, ring-same, impact-same, tallies-same, counts-same, opened-same, housed-same, pieces-same}
+use Rattle.machine.specs.Stores.{Free}
 use Rattle.machine.specs.Built.{recordedOn}
 use Rattle.machine.specs.Entered.{enteredOn}
 use Rattle.machine.proofs.Sent.{recorded-view}
@@ -62,7 +64,7 @@ module _ (x s : List ℕ) (f : Fit s) (whole : stateBytes ≤ length x) (p : Sam
             (same-sym (same-within ringAt slotsAt p (omega arith) (omega arith)))) i;
         tallies = tallies-same x s (same-within 27 45 p (omega arith) (omega arith)) i;
         housed = housed-same x s whole (f .whole) (same-within housedAt (housedAt + 58) p (omega arith) (omega arith)) i;
-        opened = sym (opened-same s x f whole (same-sym (same-within (openAt 0) ringAt p (omega arith) (omega arith)))) i;
+        opened = opened-same x s whole (f .whole) (same-within (openAt 0) ringAt p (omega arith) (omega arith)) i;
         counts = counts-same x s (same-within (countAt 0) (openAt 0) p (omega arith) (omega arith)) i;
         queue =
             queue-same x s whole (f .whole) (same-within firstAt housedAt p (omega arith) (omega arith))
@@ -81,10 +83,6 @@ module _ (x s : List ℕ) (f : Fit s) (whole : stateBytes ≤ length x) (p : Sam
         further = omega (arith, be16-same p 25 (omega arith) (omega arith));
         first = omega (arith, p .byte 45 (omega arith) (omega arith));
         waiting = omega (arith, p .byte 46 (omega arith) (omega arith));
-        open4 = omega (arith, p .byte 729 (omega arith) (omega arith));
-        open5 = omega (arith, p .byte 879 (omega arith) (omega arith));
-        open6 = omega (arith, p .byte 1029 (omega arith) (omega arith));
-        open9 = omega (arith, p .byte 1479 (omega arith) (omega arith));
       }
 
 -- all but impact
@@ -99,7 +97,7 @@ module _ (x s : List ℕ) (f : Fit s) (whole : stateBytes ≤ length x) (p : Sam
         impact = impactIn x;
         tallies = tallies-same x s (same-within 27 45 q (omega arith) (omega arith)) i;
         housed = housed-same x s whole (f .whole) (same-within housedAt (housedAt + 58) q (omega arith) (omega arith)) i;
-        opened = sym (opened-same s x f whole (same-sym (same-within (openAt 0) ringAt q (omega arith) (omega arith)))) i;
+        opened = opened-same x s whole (f .whole) (same-within (openAt 0) ringAt q (omega arith) (omega arith)) i;
         counts = counts-same x s (same-within (countAt 0) (openAt 0) q (omega arith) (omega arith)) i;
         queue = queue-same x s whole (f .whole) (same-within firstAt housedAt q (omega arith) (omega arith)) r i;
       }
@@ -116,10 +114,6 @@ module _ (x s : List ℕ) (f : Fit s) (whole : stateBytes ≤ length x) (p : Sam
         further = further;
         first = omega (arith, q .byte 45 (omega arith) (omega arith));
         waiting = omega (arith, q .byte 46 (omega arith) (omega arith));
-        open4 = omega (arith, q .byte 729 (omega arith) (omega arith));
-        open5 = omega (arith, q .byte 879 (omega arith) (omega arith));
-        open6 = omega (arith, q .byte 1029 (omega arith) (omega arith));
-        open9 = omega (arith, q .byte 1479 (omega arith) (omega arith));
       }
 
 -- ---- m
@@ -373,7 +367,7 @@ module _ (s : List ℕ) (n : ℕ) (f : Fit s) where
 
 -- SSP time and mode of the impact tick stored, and the flag
 stampedOn : List ℕ → List ℕ
-stampedOn s = put s flagAt (1 ∷ (bytes24 (now (clockIn s)) ++ (getD s nibbleAt 0 ∷ [])))
+stampedOn s = put s flagAt (1 ∷ (bytes24 (now (clockIn s)) ++ (modeByte acc-i (getD s nibbleAt 0) ∷ [])))
 
 abbrev pub stamped : Impact → Stamp → Impact
 stamped i st = record { flag = true; stamp = st; window = i .window; ring = i .ring; collection = i .collection }
@@ -381,30 +375,30 @@ stamped i st = record { flag = true; stamp = st; window = i .window; ring = i .r
 module _ (s : List ℕ) (f : Fit s) where
   stamped-length : length (stampedOn s) ≡ length s
   unfolding stampedOn
-  stamped-length = length-put s flagAt (1 ∷ (bytes24 (now (clockIn s)) ++ (getD s nibbleAt 0 ∷ []))) (omega arith)
+  stamped-length = length-put s flagAt (1 ∷ (bytes24 (now (clockIn s)) ++ (modeByte acc-i (getD s nibbleAt 0) ∷ []))) (omega arith)
 
   stamped-same : (lo hi : ℕ) → (hi ≤ flagAt) ⊎ (windowAt ≤ lo) → Same (stampedOn s) s lo hi
   unfolding stampedOn
   stamped-same lo hi o =
-      put-same s flagAt (1 ∷ (bytes24 (now (clockIn s)) ++ (getD s nibbleAt 0 ∷ []))) (omega arith) lo hi
+      put-same s flagAt (1 ∷ (bytes24 (now (clockIn s)) ++ (modeByte acc-i (getD s nibbleAt 0) ∷ []))) (omega arith) lo hi
       (⊎-elim (λ h. inr (omega arith)) (λ h. inl (omega arith)) o)
 
   stamped-flag : getD (stampedOn s) flagAt 0 ≡ 1
   unfolding stampedOn
   stamped-flag =
-      getD-put-inside s flagAt (1 ∷ (bytes24 (now (clockIn s)) ++ (getD s nibbleAt 0 ∷ []))) (omega arith) 0 (omega arith)
+      getD-put-inside s flagAt (1 ∷ (bytes24 (now (clockIn s)) ++ (modeByte acc-i (getD s nibbleAt 0) ∷ []))) (omega arith) 0 (omega arith)
 
   stamped-time : be24 (stampedOn s) impactTimeAt ≡ now (clockIn s)
   unfolding stampedOn
   stamped-time =
-      be24-put-inside s flagAt (1 ∷ (bytes24 (now (clockIn s)) ++ (getD s nibbleAt 0 ∷ []))) (omega arith) 1 (omega arith)
+      be24-put-inside s flagAt (1 ∷ (bytes24 (now (clockIn s)) ++ (modeByte acc-i (getD s nibbleAt 0) ∷ []))) (omega arith) 1 (omega arith)
       ∙ be24-bytes24 (now (clockIn s))
 
-  stamped-mode : getD (stampedOn s) impactModeAt 0 ≡ nibble (standingIn s .mode) (standingIn s .locked)
+  stamped-mode : getD (stampedOn s) impactModeAt 0 ≡ modeByte acc-i (nibble (standingIn s .mode) (standingIn s .locked))
   unfolding stampedOn standingIn
   stamped-mode =
-      getD-put-inside s flagAt (1 ∷ (bytes24 (now (clockIn s)) ++ (getD s nibbleAt 0 ∷ []))) (omega arith) 4 (omega arith)
-      ∙ sym (nibble-back (getD s nibbleAt 0) (f .nibble))
+      getD-put-inside s flagAt (1 ∷ (bytes24 (now (clockIn s)) ++ (modeByte acc-i (getD s nibbleAt 0) ∷ []))) (omega arith) 4 (omega arith)
+      ∙ ap (modeByte acc-i) (sym (nibble-back (getD s nibbleAt 0) (f .nibble)))
 
   stamped-impact : impactIn (stampedOn s) ≡ stamped (impactIn s) (stampNow (view s) acc-i)
   unfolding impactIn view
@@ -553,7 +547,7 @@ module _ (s : List ℕ) (r : ℕ) (f : Fit s) (b : r < 4096) where
       same-trans (taken-same (countedOn s) r (counted-fit s f) b lo hi o (inl h))
       (same-within lo hi (counted-rest s f) l (omega arith))
 
-module _ (s : List ℕ) (f : Fit s) (room : getD s waitingAt 0 + 7 ≤ 48) where
+module _ (s : List ℕ) (f : Fit s) (room : Free s acc-i) where
   -- the record queued, the collection over
   done-view : (view (recordedOn (put s furtherAt (bytes16 0)))
       ≡ queued (withImpact (view s) (ended (view s .impact))) acc-i (impactPacket (view s .impact)))
@@ -573,7 +567,7 @@ module _ (s : List ℕ) (f : Fit s) (room : getD s waitingAt 0 + 7 ≤ 48) where
       by-test (leb 8 (getD s nibbleAt 0)) y (enteredOn y 5 seconds) (λ l. done-view)
       (λ l. (entered-view y (done-view .1) 5 seconds ∙ ap (λ (c : Controller). enter c surface false seconds) (done-view .0), entered-fit y (done-view .1) 5 seconds (omega arith)))
 
-module _ (s : List ℕ) (r : ℕ) (f : Fit s) (b : r < 4096) (room : completes (view s) ≡ true → getD s waitingAt 0 + 7 ≤ 48) where
+module _ (s : List ℕ) (r : ℕ) (f : Fit s) (b : r < 4096) (room : completes (view s) ≡ true → Free s acc-i) where
   -- in mode 4
   near-ticked : eqb (getD s nibbleAt 0 % 8) 4 ≡ true
       → (view
@@ -589,7 +583,7 @@ module _ (s : List ℕ) (r : ℕ) (f : Fit s) (b : r < 4096) (room : completes (
       by-test (eqb (be16 s furtherAt) 448) (completedOn x) (watchedOn x)
       (λ t.
       let free = room (completes-view s ∙ rw (near, t)) in
-      let done = completed-view x fits (omega (arith, q .byte waitingAt (omega arith) (omega arith))) in
+      let done = completed-view x fits (omega (arith, free, q .byte waitingAt (omega arith) (omega arith))) in
       (done .0 ∙ ap completed e, done .1))
       (λ t.
       let less : be16 x furtherAt < 448 =

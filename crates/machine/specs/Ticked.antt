@@ -8,6 +8,8 @@ use lib.ListN.{getD}
 use Rattle.wire.specs.Wire.{be16, be24, bytes16, bytes24, put}
 use Rattle.paper.specs.Clock.{ticked, now, secondsOf}
 use Rattle.paper.specs.Impact.{above, declares}
+use Rattle.paper.specs.Streams.{acc-i}
+use Rattle.paper.specs.Packets.{modeByte}
 use Rattle.impact.specs.Window.{windowOf, moved}
 use Rattle.state.specs.Layout.{mAt, nibbleAt, flagAt, impactTimeAt, windowAt, placeAt, furtherAt, ringAt}
 use Rattle.state.specs.View.{clockIn}
@@ -26,7 +28,7 @@ takenOn s r =
 
 -- impact is declared now
 unfoldable pub declaredOn : List ℕ → List ℕ
-declaredOn s = put (put s flagAt (1 ∷ (bytes24 (now (clockIn s)) ++ (getD s nibbleAt 0 ∷ [])))) furtherAt (bytes16 1)
+declaredOn s = put (put s flagAt (1 ∷ (bytes24 (now (clockIn s)) ++ (modeByte acc-i (getD s nibbleAt 0) ∷ [])))) furtherAt (bytes16 1)
 
 -- no collection runs: impact may be declared
 unfoldable pub detectedOn : List ℕ → List ℕ

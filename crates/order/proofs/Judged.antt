@@ -3,17 +3,17 @@
 use mathlib.Core.Path.{_≡_, refl, sym, ap, _∙_, subst}
 use mathlib.Core.Bool.{Bool, true, false, cond, _&&_, _||_}
 use mathlib.Core.List.{List}
-use Prim.Native.Nat.{ℕ, _-_}
-use native.Mathlib.Omega.{arith}
-use borrow.Author.Tests.{eqb-true, eqb-false, ne-eqb, ltb-true, ltb-false, lt-ltb, le-ltb}
+use Prim.Native.Nat.{ℕ}
+use borrow.Author.Tests.{eqb-true, eqb-false, ne-eqb}
 use lib.Dec.{eqb, ltb}
 use lib.ListN.{length, getD}
 use Rattle.wire.specs.Wire.{be16}
 use Rattle.paper.specs.Frames.{Channel, command}
 use Rattle.paper.specs.Commands.{Request, clear, housekeeping, setMode, Decoded, request, refusal, outside, decoded}
-use Rattle.paper.specs.Streams.{rowOf}
-use Rattle.paper.specs.Step.{queues, reply}
+use Rattle.paper.specs.Streams.{hk}
+use Rattle.paper.specs.Step.{crowded, queues, reply}
 use Rattle.state.specs.Layout.{waitingAt}
+use Rattle.state.specs.View.{view}
 use Rattle.state.specs.Told.{told, replyTo, handled}
 use Rattle.paper.specs.Controller.{Controller}
 use Rattle.paper.specs.Acts.{noted}
@@ -45,8 +45,8 @@ says id parameters =
 
 -- the tests of a command, from what it decodes to
 abbrev tested : Decoded → Bool → ℕ
-tested (request q) crowded = cond (queues (request q) && crowded) 7 0
-tested (refusal n) crowded = cond (eqb n 2) 2 (cond (eqb n 3) 3 (cond (eqb n 4) 4 0))
+tested (request q) full = cond (queues (request q) && full) 7 0
+tested (refusal n) full = cond (eqb n 2) 2 (cond (eqb n 3) 3 (cond (eqb n 4) 4 0))
 
 one-of : (n : ℕ) (b : Bool) → Says (refusal n) → tested (refusal n) b ≡ n
 one-of n b h = at (eqb n 2) refl (eqb n 3) refl (eqb n 4) refl h
@@ -60,17 +60,17 @@ one-of n b h = at (eqb n 2) refl (eqb n 3) refl (eqb n 4) refl h
 
 module _ (s : List ℕ) (cc : Channel) (id sequence : ℕ) (parameters : List ℕ) where
   reply-by : (d : Decoded) → decoded id parameters ≡ d
-      → replyTo s (command cc id sequence parameters) ≡ tested d (ltb (48 - getD s waitingAt 0) 1)
-  unfolding reply rowOf
-  reply-by (request q) e = rw (e, queue-length s)
+      → replyTo s (command cc id sequence parameters) ≡ tested d (crowded (view s) hk)
+  unfolding reply
+  reply-by (request q) e = rw e
   reply-by (refusal n) e = rw e
 
   request-reply : (q : Request) → decoded id parameters ≡ request q
-      → replyTo s (command cc id sequence parameters) ≡ cond (queues (request q) && ltb (48 - getD s waitingAt 0) 1) 7 0
+      → replyTo s (command cc id sequence parameters) ≡ cond (queues (request q) && crowded (view s) hk) 7 0
   request-reply q e = reply-by (request q) e
 
   refusal-reply : (n : ℕ) → decoded id parameters ≡ refusal n → replyTo s (command cc id sequence parameters) ≡ n
-  refusal-reply n e = reply-by (refusal n) e ∙ one-of n (ltb (48 - getD s waitingAt 0) 1) (subst Says e (says id parameters))
+  refusal-reply n e = reply-by (refusal n) e ∙ one-of n (crowded (view s) hk) (subst Says e (says id parameters))
 
   nonzero : (n : ℕ) → decoded id parameters ≡ refusal n → n ≡ 0 → ⊥
   nonzero n e z =
@@ -85,25 +85,16 @@ module _ (s : List ℕ) (cc : Channel) (id sequence : ℕ) (parameters : List �
     refuses n e = rw (refusal-reply n e, ne-eqb n 0 (nonzero n e))
 
     pub crowds : (q : Request) → decoded id parameters ≡ request q
-        → (queues (request q) && ltb (48 - getD s waitingAt 0) 1) ≡ true
+        → (queues (request q) && crowded (view s) hk) ≡ true
         → told 7 (refused 7) ≡ handled s (command cc id sequence parameters) acted refused
     unfolding handled
     crowds q e t = rw (request-reply q e, t)
 
     pub takes : (q : Request) → decoded id parameters ≡ request q
-        → (queues (request q) && ltb (48 - getD s waitingAt 0) 1) ≡ false
+        → (queues (request q) && crowded (view s) hk) ≡ false
         → told 0 acted ≡ handled s (command cc id sequence parameters) acted refused
     unfolding handled
     takes q e t = rw (request-reply q e, t)
-
--- the code's test of the waiting pieces is the paper's of the free slots
-pub none-free : (b : Bool) (n : ℕ) → (b && ltb 47 n) ≡ (b && ltb (48 - n) 1)
-none-free b n = at b (ltb 47 n) refl
-  where
-    at : (b t : Bool) → ltb 47 n ≡ t → (b && ltb 47 n) ≡ (b && ltb (48 - n) 1)
-    at false t e = refl
-    at true true e = e ∙ sym (lt-ltb (48 - n) 1 (omega (arith, ltb-true 47 n e)))
-    at true false e = e ∙ sym (le-ltb (48 - n) 1 (omega (arith, ltb-false 47 n e)))
 
 -- noting a command leaves how many pieces wait
 pub noted-waits : (s : List ℕ) → Fit s → (cc : Channel) (id sequence : ℕ) → getD (notedOn s cc id sequence) waitingAt 0 ≡ getD s waitingAt 0

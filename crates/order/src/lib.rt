@@ -2,6 +2,13 @@
 use command::Decoded;
 use command::Request;
 use frames::Side;
+use state::COMMANDS;
+use state::ERRORS;
+use state::FURTHER;
+use state::PACKETS;
+use state::SEQUENCE;
+use state::TIME;
+use streams::HK;
 ghost use mathlib.Core.Path.{_≡_};
 ghost use mathlib.Core.Bool.{true};
 ghost use Prim.Native.Nat.{ℕ, _<_, _≤_};
@@ -9,33 +16,25 @@ ghost use lib.ListN.{length, getD, drop};
 ghost use Rattle.wire.specs.Wire.{be16};
 ghost use Rattle.paper.specs.Frames as Frames;
 ghost use Rattle.paper.specs.Commands as Commands;
+ghost use Rattle.paper.specs.Streams.{hk};
 ghost use Rattle.paper.specs.Step.{queues};
 ghost use Rattle.frames.specs.Meaning.{channel};
 ghost use Rattle.command.specs.Meaning.{asked, meant};
-ghost use Rattle.state.specs.Layout.{stateBytes, waitingAt, packetsAt};
+ghost use Rattle.state.specs.Layout.{stateBytes};
 ghost use Rattle.state.specs.Range.{Fit};
 ghost use Rattle.state.specs.Told.{told, handled};
+ghost use Rattle.machine.specs.Stores.{Free};
 ghost use Rattle.machine.specs.Obeyed.{notedOn, erredOn, commandedOn, obeyedOn, performedOn};
-
-// Where a channel's command packet count stands.
-fn count_at(side: Side) -> usize
-    ensures { λ r. ⌜ (r ≡ packetsAt (channel side)) × (r ≤ 35) ⌝ }
-{
-    match side {
-        Side::A => 33,
-        Side::B => 35,
-    }
-}
 
 // An accepted command is counted, and its sequence and id are kept.
 fn note(s: &mut [u8], side: Side, id: u16, sequence: u16)
     requires { ⌜ stateBytes ≤ length (now s) ⌝ }
     ensures { λ _. ⌜ now (s .exit) ≡ notedOn (now (s .entry)) (channel side) id sequence ⌝ }
 {
-    entry::raise(s, count_at(side));
-    entry::raise(s, 27);
+    entry::raise(s, state::channel_at(PACKETS, side));
+    entry::raise(s, COMMANDS);
     let last = [wire::lo(sequence), wire::lo(id)];
-    wire::copy_to(s, 43, &last);
+    wire::copy_to(s, SEQUENCE, &last);
 }
 
 // A refused command is counted, and its error.
@@ -43,10 +42,10 @@ fn err(s: &mut [u8], side: Side, reply: u8)
     requires { ⌜ stateBytes ≤ length (now s) ⌝ }
     ensures { λ _. ⌜ now (s .exit) ≡ erredOn (now (s .entry)) (channel side) reply ⌝ }
 {
-    let errors = s[41];
-    entry::raise(s, count_at(side));
+    let errors = s[ERRORS];
+    entry::raise(s, state::channel_at(PACKETS, side));
     let last = [std::num::wrapping_add_u8(errors, 1), reply];
-    wire::copy_to(s, 41, &last);
+    wire::copy_to(s, ERRORS, &last);
 }
 
 // Sets the mode: an entry, which abandons a running collection.
@@ -54,14 +53,14 @@ fn set_mode(s: &mut [u8], value: u8)
     requires { ⌜ (Fit (now s)) × (value < 16) ⌝ }
     ensures { λ _. ⌜ now (s .exit) ≡ commandedOn (now (s .entry)) value ⌝ }
 {
-    let t = clock::seconds(wire::get16(s, 0));
-    wire::set16(s, 25, 0);
+    let t = clock::seconds(wire::get16(s, TIME));
+    wire::set16(s, FURTHER, 0);
     entry::enter(s, value, t);
 }
 
 // Acts on a request.
 fn obey(s: &mut [u8], request: Request)
-    requires { ⌜ (Fit (now s)) × (queues (Commands.request (asked request)) ≡ true → getD (now s) waitingAt 0 < 48) ⌝ }
+    requires { ⌜ (Fit (now s)) × (queues (Commands.request (asked request)) ≡ true → Free (now s) hk) ⌝ }
     requires { ⌜ ((v : ℕ) → asked request ≡ Commands.setMode v → v < 16) ⌝ }
     ensures { λ _. ⌜ now (s .exit) ≡ obeyedOn (now (s .entry)) (asked request) ⌝ }
 {
@@ -106,7 +105,7 @@ pub fn frame(s: &mut [u8], side: Side, f: &[u8]) -> u8
         err(s, side, reply);
         return reply;
     };
-    if queues_packet(request) & (47 < s[46]) {
+    if queues_packet(request) & slots::crowded(s, HK) {
         err(s, side, 7);
         return 7;
     }

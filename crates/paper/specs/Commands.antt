@@ -2,10 +2,11 @@
 -- Assumes nothing.
 use mathlib.Core.Bool.{Bool, true, false, cond, not, _&&_, _||_}
 use mathlib.Core.List.{List, [], _∷_}
-use Prim.Native.Nat.{ℕ, zero, suc, _/_, _%_, _^_}
+use Prim.Native.Nat.{ℕ, zero, suc, _+_, _/_, _%_, _^_}
 use lib.Dec.{eqb, ltb}
 use lib.ListN.{length}
 use Rattle.wire.specs.Wire.{be16}
+use Rattle.paper.specs.Streams.{Row, table}
 
 pub data Request : Type 0 where
   clear : ℕ → Request
@@ -20,8 +21,14 @@ pub data Decoded : Type 0 where
 abbrev pub names : ℕ → ℕ → Bool
 names mask n = eqb (mask / 2 ^ n % 2) 1
 
+-- the bits of some rows' streams
+abbrev pub bitsOf : List Row → ℕ
+bitsOf [] = 0
+bitsOf (r ∷ rs) = 2 ^ r .stream + bitsOf rs
+
+-- 0E74: the bits of the table's streams
 abbrev pub clearMask : ℕ
-clearMask = 0x0E74
+clearMask = bitsOf table
 
 -- "bits outside 0E74": one of the lowest n bits
 abbrev pub outsideBelow : ℕ → ℕ → Bool

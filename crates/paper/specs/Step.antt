@@ -10,7 +10,7 @@ use Rattle.wire.specs.Wire.{be16}
 use Rattle.paper.specs.Frames.{Channel, Frame, broadcast, command, tick, sample, poll, status, analogue, faulty, frameOf}
 use Rattle.paper.specs.Clock.{seconds}
 use Rattle.paper.specs.Commands.{Request, clear, housekeeping, setMode, Decoded, request, refusal, decoded, refusedWith}
-use Rattle.paper.specs.Streams.{acc-i, den, hk, pieces, width, takenIn}
+use Rattle.paper.specs.Streams.{acc-i, hk, Form, ofBytes, of12Bits, pieces, width, form, takenIn}
 use Rattle.paper.specs.Streams as table
 use Rattle.paper.specs.Queue.{free}
 use Rattle.paper.specs.Controller.{raisedAt, raised8, Controller, withTallies}
@@ -51,12 +51,17 @@ wrongLength (status cc low flags) = false
 wrongLength (analogue bytes) = false
 wrongLength faulty = false
 
--- "4: value out of range"; "A tick carries 0 to 4095 (else 4)"; "DEN comes as two bytes, at most 0FFF (else 4)"
+-- "DEN comes as two bytes, at most 0FFF (else 4)"
+abbrev pub tooGreat : Form → List ℕ → Bool
+tooGreat ofBytes x = false
+tooGreat of12Bits x = ltb 0x0FFF (be16 x 0)
+
+-- "4: value out of range"; "A tick carries 0 to 4095 (else 4)"
 abbrev pub outOfRange : Frame → Bool
 outOfRange (broadcast cc time altitude spin phase) = false
 outOfRange (command cc id sequence parameters) = eqb (refusedWith (decoded id parameters)) 4
 outOfRange (tick r) = ltb 4095 r
-outOfRange (sample s x) = eqb s den && ltb 0x0FFF (be16 x 0)
+outOfRange (sample s x) = tooGreat (form s) x
 outOfRange (poll cc) = false
 outOfRange (status cc low flags) = false
 outOfRange (analogue bytes) = false

@@ -7,6 +7,7 @@ use lib.Dec.{eqb}
 use lib.ListN.{take, getD, replicate}
 use Rattle.hexline.specs.Hex.{hexOf}
 use Rattle.hexline.specs.Talk.{Answer, Way}
+use Rattle.state.specs.Layout.{stateBytes}
 use Rattle.state.specs.Told.{Res}
 use Rattle.machine.specs.Called.{stepOf, startOf}
 
@@ -35,4 +36,4 @@ answerTo s f = answered f (stepOf s f blank)
 
 -- the state that bench begins with: a start on zeros
 unfoldable pub begun : List ℕ
-begun = startOf (replicate 8713 0) .state
+begun = startOf (replicate stateBytes 0) .state

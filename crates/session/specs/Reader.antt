@@ -10,6 +10,7 @@ use Rattle.paper.specs.Streams.{listed}
 use Rattle.hexline.specs.Hex.{hexOf, decimalOf}
 use Rattle.hexline.specs.Talk.{Answer, Way}
 use Rattle.state.specs.Told.{Res}
+use Rattle.shelf.specs.Layout.{readerBytes}
 use Rattle.shelf.specs.Fresh.{startOf}
 use Rattle.shelf.specs.Received.{readOf}
 
@@ -43,4 +44,4 @@ answerTo s f = answered f (readOf s f blank)
 
 -- the state that reader begins with: a start on zeros
 unfoldable pub begun : List ℕ
-begun = startOf (replicate 9960 0) .state
+begun = startOf (replicate readerBytes 0) .state

@@ -19,8 +19,8 @@ use Rattle.paper.specs.Reader.{Track, fresh, distance, placed, gathers, moves, 
 use Rattle.state.specs.Told.{res}
 use Rattle.paper.proofs.Packets.{joined-chunks}
 use Rattle.paper.proofs.Table.{Carried, carried-rules}
-use Rattle.shelf.specs.Layout.{recordAt, placeAt, markAt, gatherAt, pieceAt}
-use Rattle.shelf.specs.View.{trackIn, readerIn}
+use Rattle.shelf.specs.Layout.{recordAt, placeAt, gatherAt, pieceAt}
+use Rattle.shelf.specs.View.{lastIn, placeIn, runsIn, trackIn, readerIn}
 use Rattle.shelf.specs.Range.{Fit, fit}
 use Rattle.shelf.specs.Received.{recordOf, recordedOn, gathersOn, movesOn, arrivesOn, arrivedOn, understoodOn, receivedOn, toldOf, readOf}
 use Rattle.shelf.specs.Formed.{handsTo, gathersTo, movesTo, arrivesTo, arrivedTo, understoodTo, formed}
@@ -79,23 +79,23 @@ module _ (s : List ℕ) (f : Fit s) (t : ℕ) (c : carried t ≡ true) (count : 
       at false = refl
   gathers-formed false place g h l e = refl
 
-  moves-formed : (d : ℕ) (anew goesOn atLast : Bool) → eqb (placed (pieces t) (getD s (placeAt t) 0) d) 0 ≡ anew
-      → (eqb d 1 && eqb (getD s (markAt t) 0) 1) ≡ goesOn → eqb (placed (pieces t) (getD s (placeAt t) 0) d) (pieces t - 1) ≡ atLast
+  moves-formed : (d : ℕ) (anew goesOn atLast : Bool) → eqb (placed (pieces t) (placeIn s t) d) 0 ≡ anew
+      → (eqb d 1 && runsIn s t) ≡ goesOn → eqb (placed (pieces t) (placeIn s t) d) (pieces t - 1) ≡ atLast
       → toldOf
       (received (readerIn s) t
-      (moves anew goesOn atLast count (placed (pieces t) (getD s (placeAt t) 0) d) (trackIn s t .gathered) x)) o
-      (movesOn s t anew goesOn atLast count (placed (pieces t) (getD s (placeAt t) 0) d) x)
-      ≡ movesTo s t anew goesOn atLast count (placed (pieces t) (getD s (placeAt t) 0) d) x o
+      (moves anew goesOn atLast count (placed (pieces t) (placeIn s t) d) (trackIn s t .gathered) x)) o
+      (movesOn s t anew goesOn atLast count (placed (pieces t) (placeIn s t) d) x)
+      ≡ movesTo s t anew goesOn atLast count (placed (pieces t) (placeIn s t) d) x o
   unfolding received trackIn
   moves-formed d anew goesOn atLast a g l = at anew goesOn a g
     where
       place : ℕ
-      place = placed (pieces t) (getD s (placeAt t) 0) d
+      place = placed (pieces t) (placeIn s t) d
 
       within : place < pieces t
-      within = mod-lt (getD s (placeAt t) 0 + d) (ltb-true 0 (pieces t) c)
+      within = mod-lt (placeIn s t + d) (ltb-true 0 (pieces t) c)
 
-      at : (anew goesOn : Bool) → eqb place 0 ≡ anew → (eqb d 1 && eqb (getD s (markAt t) 0) 1) ≡ goesOn
+      at : (anew goesOn : Bool) → eqb place 0 ≡ anew → (eqb d 1 && runsIn s t) ≡ goesOn
           → toldOf (received (readerIn s) t (moves anew goesOn atLast count place (trackIn s t .gathered) x)) o
           (movesOn s t anew goesOn atLast count place x)
           ≡ movesTo s t anew goesOn atLast count place x o
@@ -103,11 +103,11 @@ module _ (s : List ℕ) (f : Fit s) (t : ℕ) (c : carried t ≡ true) (count : 
           gathers-formed atLast place (x ∷ []) within l
           (ap (λ (n : ℕ). chunks 118 n (drop (gatherAt t) s) ++ (x ∷ [])) (eqb-true place 0 a))
       at false true a g =
-          let h = both (eqb d 1) (eqb (getD s (markAt t) 0) 1) g in
+          let h = both (eqb d 1) (runsIn s t) g in
           let one : d ≡ 1 = eqb-true d 1 (h .0) in
-          let next : place ≡ suc (getD s (placeAt t) 0) =
-          ap (placed (pieces t) (getD s (placeAt t) 0)) one
-          ∙ follows (getD s (placeAt t) 0) (pieces t) (f .tracks t c .place) (rw one at a) in
+          let next : place ≡ suc (placeIn s t) =
+          ap (placed (pieces t) (placeIn s t)) one
+          ∙ follows (placeIn s t) (pieces t) (mod-lt (getD s (placeAt t) 0) (ltb-true 0 (pieces t) c)) (rw one at a) in
           gathers-formed atLast place (trackIn s t .gathered ++ (x ∷ [])) within l
           (rw (h .1) (ap (λ (n : ℕ). chunks 118 n (drop (gatherAt t) s) ++ (x ∷ [])) next))
       at false false a g = refl
@@ -126,7 +126,7 @@ module _ (s : List ℕ) (f : Fit s) (t : ℕ) (c : carried t ≡ true) (count : 
       subst
       (λ (k : Track (List ℕ)).
       toldOf (received (readerIn s) t (arrive (pieces t) k count x)) o (arrivedOn s t count x) ≡ arrivedTo s t count x o)
-      (sym own) (arrives-formed (distance (be16 s (recordAt t)) count) (eqb (distance (be16 s (recordAt t)) count) 0))
+      (sym own) (arrives-formed (distance (lastIn s t) count) (eqb (distance (lastIn s t) count) 0))
     where
       own : readerIn s t ≡ trackIn s t
       own = ap (λ (b : Bool). cond b (trackIn s t) (fresh (pieces t))) c

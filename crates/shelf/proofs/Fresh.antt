@@ -2,33 +2,74 @@
 -- Assumes nothing.
 use mathlib.Core.Path.{_≡_, refl, sym, ap, _∙_, fun-ext}
 use mathlib.Core.Bool.{Bool, true, false, cond}
-use mathlib.Core.List.{List, []}
-use Prim.Native.Nat.{ℕ, suc, _+_, _-_, _≤_, _<_}
-use native.Mathlib.Nat.{zero-add}
+use mathlib.Core.List.{List}
+use Prim.{Dec, yes, no}
+use Prim.Native.Nat.{ℕ, zero, suc, _+_, _-_, _≤_, _<_}
+use native.Mathlib.Decide.{decLt}
 use native.Mathlib.Omega.{arith}
-use lib.Dec.{eqb, ltb}
-use lib.ListN.{length, getD, drop, length-replicate}
+use lib.ListN.{length, drop, length-replicate}
 use borrow.Author.Tests.{ltb-true}
-use Rattle.wire.specs.Wire.{be16, put}
-use Rattle.wire.proofs.Runs.{length-put, getD-put-inside, drop-put}
-use Rattle.paper.specs.Streams.{rowOf, pieces, carried}
-use Rattle.paper.specs.Packets.{chunks, pieceSize}
+use Rattle.wire.specs.Wire.{be16, bytes16, put}
+use Rattle.wire.proofs.Runs.{length-put, drop-put, be16-put-same}
+use Rattle.paper.specs.Streams.{pieces, carried}
 use Rattle.paper.specs.Reader.{fresh, readerStart}
-use Rattle.state.proofs.Apart.{by-row}
-use Rattle.shelf.specs.Layout.{streams, recordAt, placeAt, markAt, gatherAt, readerBytes}
+use Rattle.paper.proofs.Table.{Carried, carried-rules}
+use Rattle.state.proofs.Apart.{Same, same-refl, same-trans, be16-same}
+use Rattle.shelf.specs.Layout.{markAt, readerMark, streams, readerBytes}
 use Rattle.shelf.specs.View.{trackIn, readerIn}
 use Rattle.shelf.specs.Range.{Fit}
-use Rattle.shelf.specs.Fresh.{zeros, freshRecords, startedOn}
+use Rattle.shelf.specs.Received.{recordedOn}
+use Rattle.shelf.specs.Fresh.{zeros, freshOn, startedOn}
+use Rattle.shelf.proofs.Gathered.{Elsewhere, record-elsewhere, record-track, track-same}
 
 length-zeros : length zeros ≡ readerBytes
 unfolding zeros
 length-zeros = length-replicate {A = ℕ} readerBytes 0
 
--- what a stream's record says afterwards, if its packets have k pieces
-record Begun (s : List ℕ) (t k : ℕ) : Type 0 where
-  last : be16 s (recordAt t) ≡ 4095
-  place : getD s (placeAt t) 0 ≡ k - 1
-  mark : getD s (markAt t) 0 ≡ 0
+-- ---- fresh records, of the streams below n
+
+-- what is elsewhere stays
+pub record Records (x s : List ℕ) : Type 0 where
+  pub long : length x ≡ length s
+  pub past : drop readerBytes x ≡ drop readerBytes s
+  pub mark : Same x s markAt (markAt + 2)
+
+module _ (s : List ℕ) (w : readerBytes ≤ length s) where
+  pub records : (n : ℕ) → n ≤ streams → Records (freshOn s n) s
+  unfolding freshOn
+  records zero h = record { long = refl; past = refl; mark = same-refl s _ _ }
+  records (suc t) h =
+      let r = records t (omega arith) in
+      let e = record-elsewhere (freshOn s t) (omega (arith, r .long)) t (omega arith) 4095 (pieces t - 1) 0 in
+      record { long = e .long ∙ r .long; past = e .past ∙ r .past; mark = same-trans (e .mark) (r .mark) }
+
+  -- each is there
+  begun : (n t : ℕ) → n ≤ streams → t < n → carried t ≡ true → trackIn (freshOn s n) t ≡ fresh (pieces t)
+  unfolding freshOn
+  begun zero t h l c = absurd (omega arith)
+  begun (suc m) t h l c = at (decLt t m) (λ b. begun m t (omega arith) b c)
+    where
+      rules : Carried t
+      rules = carried-rules t c
+
+      some : 0 < pieces t
+      some = ltb-true 0 (pieces t) c
+
+      r : Records (freshOn s m) s
+      r = records m (omega arith)
+
+      at : Dec (t < m) → (t < m → trackIn (freshOn s m) t ≡ fresh (pieces t)) → trackIn (recordedOn (freshOn s m) m 4095 (pieces m - 1) 0) t ≡ fresh (pieces t)
+      at (yes b) before =
+          let e = record-elsewhere (freshOn s m) (omega (arith, r .long)) m (omega arith) 4095 (pieces m - 1) 0 in
+          track-same _ (freshOn s m) (e .long) (omega (arith, r .long)) t some (e .tracks t (omega arith) (λ z. omega arith)) (omega arith)
+          (rules .few) (e .gathered t (omega arith) (λ z. omega arith))
+          ∙ before b
+      at (no b) before =
+          let same : m ≡ t = omega arith in
+          ap (λ (n : ℕ). trackIn (recordedOn (freshOn s m) n 4095 (pieces n - 1) 0) t) same
+          ∙ record-track (freshOn s m) (omega (arith, r .long)) t (omega arith) 4095 (pieces t - 1) 0 (omega arith) (omega (arith, some)) (rules .few)
+
+-- ---- fresh bytes
 
 module _ (s : List ℕ) (w : readerBytes ≤ length s) where
   zeros-fit : 0 + length zeros ≤ length s
@@ -37,72 +78,45 @@ module _ (s : List ℕ) (w : readerBytes ≤ length s) where
   blank : length (put s 0 zeros) ≡ length s
   blank = length-put s 0 zeros zeros-fit
 
-  records-fit : 0 + length (freshRecords 0 streams) ≤ length (put s 0 zeros)
-  records-fit = omega (arith, blank)
+  mark-fits : markAt + length (bytes16 readerMark) ≤ length (put s 0 zeros)
+  mark-fits = omega (arith, blank)
+
+  abbrev marked : List ℕ
+  marked = put (put s 0 zeros) markAt (bytes16 readerMark)
+
+  marked-length : length marked ≡ length s
+  marked-length = length-put (put s 0 zeros) markAt (bytes16 readerMark) mark-fits ∙ blank
+
+  marked-whole : readerBytes ≤ length marked
+  marked-whole = omega (arith, marked-length)
 
   pub start-length : length (startedOn s) ≡ length s
   unfolding startedOn
-  start-length = length-put (put s 0 zeros) 0 (freshRecords 0 streams) records-fit ∙ blank
+  start-length = records marked marked-whole streams (omega arith) .long ∙ marked-length
 
   -- "later bytes staying"
   pub start-past : drop readerBytes (startedOn s) ≡ drop readerBytes s
   unfolding startedOn
   start-past =
-      drop-put (put s 0 zeros) 0 (freshRecords 0 streams) records-fit readerBytes (omega arith)
+      records marked marked-whole streams (omega arith) .past
+      ∙ drop-put (put s 0 zeros) markAt (bytes16 readerMark) mark-fits readerBytes (omega arith)
       ∙ drop-put s 0 zeros zeros-fit readerBytes (omega (arith, length-zeros))
 
-  byte : (i : ℕ) → i < 48 → getD (startedOn s) i 0 ≡ getD (freshRecords 0 streams) i 0
-  unfolding startedOn
-  byte i h =
-      ap (λ (n : ℕ). getD (put (put s 0 zeros) 0 (freshRecords 0 streams)) n 0) (sym (zero-add i))
-      ∙ getD-put-inside (put s 0 zeros) 0 (freshRecords 0 streams) records-fit i h
-
-  -- a record of the list is read back at its stream's place
-  begins : (t k : ℕ) → t < streams → be16 (freshRecords 0 streams) (recordAt t) ≡ 4095
-      → getD (freshRecords 0 streams) (placeAt t) 0 ≡ k - 1 → getD (freshRecords 0 streams) (markAt t) 0 ≡ 0 → Begun (startedOn s) t k
-  begins t k l last place mark =
-      record {
-        last = omega (arith, byte (recordAt t) (omega arith), byte (recordAt t + 1) (omega arith), last);
-        place = byte (placeAt t) (omega arith) ∙ place;
-        mark = byte (markAt t) (omega arith) ∙ mark;
-      }
-
-  begun : (t : ℕ) → carried t ≡ true → Begun (startedOn s) t (pieces t)
-  unfolding rowOf
-  begun =
-      by-row (λ t r. ltb 0 (r .pieces) ≡ true → Begun (startedOn s) t (r .pieces))
-      (λ c. begins 0x2 7 (omega arith) refl refl refl)
-      (λ c. begins 0x4 1 (omega arith) refl refl refl)
-      (λ c. begins 0x5 1 (omega arith) refl refl refl)
-      (λ c. begins 0x6 1 (omega arith) refl refl refl)
-      (λ c. begins 0x9 1 (omega arith) refl refl refl)
-      (λ c. begins 0xA 1 (omega arith) refl refl refl)
-      (λ c. begins 0xB 5 (omega arith) refl refl refl)
-      (λ t c. absurd (let z : _≡_ {A = ℕ} 0 1 = cc in omega arith))
-
   pub start-view : readerIn (startedOn s) ≡ readerStart
-  unfolding readerIn readerStart trackIn
+  unfolding readerIn readerStart startedOn
   start-view = fun-ext (λ t. at t (carried t) refl)
     where
-      at : (t : ℕ) (b : Bool) → carried t ≡ b → cond b (trackIn (startedOn s) t) (fresh (pieces t)) ≡ fresh (pieces t)
-      at t true c =
-          let b = begun t c in
-          λ i.
-          record {
-            last = b .last i;
-            place = b .place i;
-            running = eqb (b .mark i) 1;
-            gathered =
-                cond (eqb (b .mark i) 1) (chunks pieceSize (suc (getD (startedOn s) (placeAt t) 0)) (drop (gatherAt t) (startedOn s))) [];
-          }
+      at : (t : ℕ) (b : Bool) → carried t ≡ b → cond b (trackIn (freshOn marked streams) t) (fresh (pieces t)) ≡ fresh (pieces t)
+      at t true c = begun marked marked-whole streams t (omega arith) (omega (arith, carried-rules t c .small)) c
       at t false c = refl
 
   pub start-fit : Fit (startedOn s)
+  unfolding startedOn
   start-fit =
+      let r = records marked marked-whole streams (omega arith) in
       record {
-        whole = omega (arith, start-length);
-        tracks = λ t c.
-            let b = begun t c in
-            let k : 0 < pieces t = ltb-true 0 (pieces t) c in
-            record { last = omega (arith, b .last); place = omega (arith, b .place); mark = omega (arith, b .mark) };
+        whole = omega (arith, r .long, marked-length);
+        mark =
+            be16-same (r .mark) markAt (omega arith) (omega arith)
+            ∙ be16-put-same (put s 0 zeros) markAt readerMark (omega (arith, mark-fits));
       }

@@ -7,7 +7,7 @@ use mathlib.Core.Logic.{inl, inr}
 use Prim.{Dec, yes, no}
 use Prim.Native.Nat.{ℕ, zero, suc, _+_, _*_, _/_, _%_, _≤_, _<_}
 use native.Mathlib.Decide.{decLt}
-use native.Mathlib.Nat.{add-zero, mod-eq-of-lt, mod-self}
+use native.Mathlib.Nat.{add-zero, mod-lt, mod-eq-of-lt, mod-self}
 use native.Mathlib.Numerals.{add-one}
 use native.Mathlib.Omega.{arith}
 use lib.Dec.{eqb}
@@ -20,9 +20,8 @@ use Rattle.paper.specs.Streams.{pieces}
 use Rattle.paper.specs.Packets.{chunks}
 use Rattle.paper.specs.Reader.{placed}
 use Rattle.state.proofs.Apart.{Same, same-trans, Outside, put-same, be16-same, chunks-same, chunks-snoc}
-use Rattle.shelf.specs.Layout.{streams, recordAt, placeAt, markAt, gatherAt, pieceAt, readerBytes}
-use Rattle.shelf.specs.View.{trackIn}
-use Rattle.shelf.specs.Range.{Fits}
+use Rattle.shelf.specs.Layout.{markAt, streams, recordAt, placeAt, runsAt, gatherAt, pieceAt, readerBytes}
+use Rattle.shelf.specs.View.{lastIn, placeIn, trackIn}
 use Rattle.shelf.specs.Received.{recordOf, recordedOn}
 
 -- ---- one more piece
@@ -48,6 +47,7 @@ piece-snoc s g p x e h =
 pub record Elsewhere (x s : List ℕ) (t : ℕ) : Type 0 where
   pub long : length x ≡ length s
   pub past : drop readerBytes x ≡ drop readerBytes s
+  pub mark : Same x s markAt (markAt + 2)
   pub tracks : (u : ℕ) → u < streams → (t ≡ u → ⊥) → Same x s (recordAt u) (recordAt u + 4)
   pub gathered : (u : ℕ) → u < streams → (t ≡ u → ⊥) → Same x s (gatherAt u) (gatherAt u + 826)
 
@@ -56,6 +56,7 @@ elsewhere-trans x y s t p q =
     record {
       long = p .long ∙ q .long;
       past = p .past ∙ q .past;
+      mark = same-trans (p .mark) (q .mark);
       tracks = λ u l n. same-trans (p .tracks u l n) (q .tracks u l n);
       gathered = λ u l n. same-trans (p .gathered u l n) (q .gathered u l n);
     }
@@ -68,6 +69,7 @@ module _ (s : List ℕ) (w : readerBytes ≤ length s) (t : ℕ) (l : t < stream
       record {
         long = length-put s (recordAt t) v fits;
         past = drop-put s (recordAt t) v fits readerBytes (omega arith);
+        mark = put-same s (recordAt t) v fits _ _ (inr (omega arith));
         tracks = λ u k n. put-same s (recordAt t) v fits _ _ (beside u (decLt t u) n);
         gathered = λ u k n. put-same s (recordAt t) v fits _ _ (inl (omega arith));
       }
@@ -89,6 +91,7 @@ module _ (s : List ℕ) (w : readerBytes ≤ length s) (t : ℕ) (l : t < stream
       record {
         long = length-put s (pieceAt t place) x fits;
         past = drop-put s (pieceAt t place) x fits readerBytes (omega arith);
+        mark = put-same s (pieceAt t place) x fits _ _ (inr (omega arith));
         tracks = λ u k n. put-same s (pieceAt t place) x fits _ _ (inr (omega arith));
         gathered = λ u k n. put-same s (pieceAt t place) x fits _ _ (beside u (decLt t u) n);
       }
@@ -98,7 +101,7 @@ module _ (s : List ℕ) (w : readerBytes ≤ length s) (t : ℕ) (l : t < stream
       beside u (no a) n = inr (omega arith)
 
   -- the record that is stored is read back
-  pub record-track : (last place mark : ℕ) → place < 7
+  pub record-track : (last place mark : ℕ) → last < 4096 → place < pieces t → pieces t ≤ 7
       → trackIn (recordedOn s t last place mark) t
       ≡ record {
         last = last;
@@ -107,7 +110,7 @@ module _ (s : List ℕ) (w : readerBytes ≤ length s) (t : ℕ) (l : t < stream
         gathered = cond (eqb mark 1) (chunks 118 (suc place) (drop (gatherAt t) s)) [];
       }
   unfolding recordedOn trackIn
-  record-track last place mark h =
+  record-track last place mark a b h =
       let v : List ℕ = recordOf last place mark in
       let x : List ℕ = put s (recordAt t) v in
       let fits : recordAt t + length v ≤ length s = omega arith in
@@ -115,10 +118,11 @@ module _ (s : List ℕ) (w : readerBytes ≤ length s) (t : ℕ) (l : t < stream
       let first : getD x (recordAt t) 0 ≡ last / 256 =
       ap (λ (n : ℕ). getD x n 0) (sym (add-zero (recordAt t))) ∙ getD-put-inside s (recordAt t) v fits 0 (omega arith) in
       let second : getD x (recordAt t + 1) 0 ≡ last % 256 = getD-put-inside s (recordAt t) v fits 1 (omega arith) in
-      let whole : be16 x (recordAt t) ≡ last = omega (arith, first, second) in
-      let third : getD x (placeAt t) 0 ≡ place = getD-put-inside s (recordAt t) v fits 2 (omega arith) in
-      let fourth : getD x (markAt t) 0 ≡ mark = getD-put-inside s (recordAt t) v fits 3 (omega arith) in
-      let bodies : chunks 118 (suc (getD x (placeAt t) 0)) (drop (gatherAt t) x) ≡ chunks 118 (suc place) (drop (gatherAt t) s) =
+      let whole : lastIn x t ≡ last = omega (arith, first, second) in
+      let third : placeIn x t ≡ place =
+      ap (λ (n : ℕ). n % pieces t) (getD-put-inside s (recordAt t) v fits 2 (omega arith)) ∙ mod-eq-of-lt b in
+      let fourth : getD x (runsAt t) 0 ≡ mark = getD-put-inside s (recordAt t) v fits 3 (omega arith) in
+      let bodies : chunks 118 (suc (placeIn x t)) (drop (gatherAt t) x) ≡ chunks 118 (suc place) (drop (gatherAt t) s) =
       ap (λ (n : ℕ). chunks 118 (suc n) (drop (gatherAt t) x)) third
       ∙ chunks-same (put-same s (recordAt t) v fits (gatherAt t) (gatherAt t + 826) (inl (omega arith))) 118 (suc place) (gatherAt t)
       (omega arith) (omega arith) (omega arith) (omega arith) in
@@ -130,42 +134,21 @@ module _ (s : List ℕ) (w : readerBytes ≤ length s) (t : ℕ) (l : t < stream
         gathered = cond (eqb (fourth i) 1) (bodies i) [];
       }
 
-  pub record-fits : (last place mark : ℕ) → last < 4096 → place < pieces t → mark ≤ 1 → Fits (recordedOn s t last place mark) t
-  unfolding recordedOn
-  record-fits last place mark a b c =
-      let v : List ℕ = recordOf last place mark in
-      let x : List ℕ = put s (recordAt t) v in
-      let fits : recordAt t + length v ≤ length s = omega arith in
-      let first : getD x (recordAt t) 0 ≡ last / 256 =
-      ap (λ (n : ℕ). getD x n 0) (sym (add-zero (recordAt t))) ∙ getD-put-inside s (recordAt t) v fits 0 (omega arith) in
-      let second : getD x (recordAt t + 1) 0 ≡ last % 256 = getD-put-inside s (recordAt t) v fits 1 (omega arith) in
-      let third : getD x (placeAt t) 0 ≡ place = getD-put-inside s (recordAt t) v fits 2 (omega arith) in
-      let fourth : getD x (markAt t) 0 ≡ mark = getD-put-inside s (recordAt t) v fits 3 (omega arith) in
-      record { last = omega (arith, first, second); place = omega (arith, third); mark = omega (arith, fourth) }
-
 -- ---- a stream whose places agree
 
-module _ (x s : List ℕ) (long : length x ≡ length s) (w : readerBytes ≤ length s) (u : ℕ) (f : Fits s u) (p : Same x s (recordAt u) (recordAt u + 4)) where
-  pub track-same : u < streams → pieces u ≤ 7 → Same x s (gatherAt u) (gatherAt u + 826) → trackIn x u ≡ trackIn s u
-  unfolding trackIn
-  track-same l k q =
-      let last = be16-same p (recordAt u) (omega arith) (omega arith) in
-      let place = p .byte (placeAt u) (omega arith) (omega arith) in
-      let mark = p .byte (markAt u) (omega arith) (omega arith) in
-      let few : getD s (placeAt u) 0 < 7 = omega (arith, f .place) in
-      let bodies : chunks 118 (suc (getD x (placeAt u) 0)) (drop (gatherAt u) x)
-      ≡ chunks 118 (suc (getD s (placeAt u) 0)) (drop (gatherAt u) s) =
-      ap (λ (n : ℕ). chunks 118 (suc n) (drop (gatherAt u) x)) place
-      ∙ chunks-same q 118 (suc (getD s (placeAt u) 0)) (gatherAt u) (omega arith) (omega arith) (omega arith) (omega arith) in
-      λ i. record { last = last i; place = place i; running = eqb (mark i) 1; gathered = cond (eqb (mark i) 1) (bodies i) [] }
-
-  pub fits-same : Fits x u
-  fits-same =
-      record {
-        last = omega (arith, f .last, be16-same p (recordAt u) (omega arith) (omega arith));
-        place = omega (arith, f .place, p .byte (placeAt u) (omega arith) (omega arith));
-        mark = omega (arith, f .mark, p .byte (markAt u) (omega arith) (omega arith));
-      }
+pub track-same : (x s : List ℕ) → length x ≡ length s → readerBytes ≤ length s → (u : ℕ) → 0 < pieces u
+    → Same x s (recordAt u) (recordAt u + 4) → u < streams → pieces u ≤ 7 → Same x s (gatherAt u) (gatherAt u + 826)
+    → trackIn x u ≡ trackIn s u
+unfolding trackIn
+track-same x s long w u some p l k q =
+    let last = ap (λ (n : ℕ). n % 4096) (be16-same p (recordAt u) (omega arith) (omega arith)) in
+    let place = ap (λ (n : ℕ). n % pieces u) (p .byte (placeAt u) (omega arith) (omega arith)) in
+    let runs = p .byte (runsAt u) (omega arith) (omega arith) in
+    let few : placeIn s u < 7 = omega (arith, mod-lt (getD s (placeAt u) 0) some) in
+    let bodies : chunks 118 (suc (placeIn x u)) (drop (gatherAt u) x) ≡ chunks 118 (suc (placeIn s u)) (drop (gatherAt u) s) =
+    ap (λ (n : ℕ). chunks 118 (suc n) (drop (gatherAt u) x)) place
+    ∙ chunks-same q 118 (suc (placeIn s u)) (gatherAt u) (omega arith) (omega arith) (omega arith) (omega arith) in
+    λ i. record { last = last i; place = place i; running = eqb (runs i) 1; gathered = cond (eqb (runs i) 1) (bodies i) [] }
 
 -- ---- the next place
 

@@ -16,8 +16,8 @@ use Rattle.paper.specs.Streams.{pieces, listed, carried}
 use Rattle.paper.specs.Reader.{distance, placed, Packet, packet, notCarried, noPacket, wellFormed, packetOf, sound, understood, readerStep}
 use Rattle.paper.proofs.Table.{Carried, carried-rules}
 use Rattle.state.specs.Told.{Res, res}
-use Rattle.shelf.specs.Layout.{readerBytes, recordAt, placeAt, markAt, gatherAt, pieceAt}
-use Rattle.shelf.specs.View.{readerIn}
+use Rattle.shelf.specs.Layout.{readerBytes, gatherAt, pieceAt}
+use Rattle.shelf.specs.View.{lastIn, placeIn, runsIn, readerIn}
 use Rattle.shelf.specs.Range.{Fit}
 use Rattle.shelf.specs.Received.{gathersOn, understoodOn, toldOf}
 use Rattle.shelf.specs.Formed.{handsTo, gathersTo, movesTo, arrivesTo, arrivedTo, understoodTo}
@@ -73,13 +73,13 @@ module _ (s : List ℕ) (w : readerBytes ≤ length s) (t : ℕ) (c : carried t 
   arrives-listed : (b : Bool) (d : ℕ) → Listed t (arrivesTo s t b count d x [] .reply) (arrivesTo s t b count d x [] .out)
   arrives-listed true d = inr ((λ e. absurd (omega arith)), refl)
   arrives-listed false d =
-      let place : ℕ = placed (pieces t) (getD s (placeAt t) 0) d in
-      moves-listed (eqb place 0) (eqb d 1 && eqb (getD s (markAt t) 0) 1) (eqb place (pieces t - 1)) place
-      (omega (arith, mod-lt (getD s (placeAt t) 0 + d) (ltb-true 0 (pieces t) c), r .few))
+      let place : ℕ = placed (pieces t) (placeIn s t) d in
+      moves-listed (eqb place 0) (eqb d 1 && runsIn s t) (eqb place (pieces t - 1)) place
+      (omega (arith, mod-lt (placeIn s t + d) (ltb-true 0 (pieces t) c), r .few))
 
   arrived-listed : Listed t (arrivedTo s t count x [] .reply) (arrivedTo s t count x [] .out)
   unfolding arrivedTo
-  arrived-listed = arrives-listed (eqb (distance (be16 s (recordAt t)) count) 0) (distance (be16 s (recordAt t)) count)
+  arrived-listed = arrives-listed (eqb (distance (lastIn s t) count) 0) (distance (lastIn s t) count)
 
 -- what the reader that the bytes hold hands out is what a call stores over nothing
 heard-listed : (s : List ℕ) → Fit s → (p : Packet) → Shaped Any p → (t : ℕ)

@@ -20,8 +20,8 @@ use Rattle.paper.specs.Reader.{Track, distance, placed, gathers, moves, arrives
 use Rattle.paper.proofs.Table.{Carried, carried-rules}
 use Rattle.state.specs.Told.{res}
 use Rattle.state.specs.Calls.{Bytes}
-use Rattle.shelf.specs.Layout.{recordAt, placeAt, markAt, pieceAt, readerBytes}
-use Rattle.shelf.specs.View.{readerIn}
+use Rattle.shelf.specs.Layout.{pieceAt, readerBytes}
+use Rattle.shelf.specs.View.{lastIn, placeIn, runsIn, readerIn}
 use Rattle.shelf.specs.Range.{fit}
 use Rattle.shelf.specs.Received.{gathersOn, movesOn, arrivesOn, arrivedOn, understoodOn, receivedOn, toldOf, readOf}
 use Rattle.shelf.proofs.Ranges.{fit-true}
@@ -52,13 +52,13 @@ module _ (s : List ℕ) (w : readerBytes ≤ length s) (t : ℕ) (c : carried t 
   arrives-past : (b : Bool) (d : ℕ) → drop readerBytes (arrivesOn s t b count d x) ≡ drop readerBytes s
   arrives-past true d = refl
   arrives-past false d =
-      let place : ℕ = placed (pieces t) (getD s (placeAt t) 0) d in
-      moves-past (eqb place 0) (eqb d 1 && eqb (getD s (markAt t) 0) 1) (eqb place (pieces t - 1)) place
-      (omega (arith, mod-lt (getD s (placeAt t) 0 + d) (ltb-true 0 (pieces t) c), r .few))
+      let place : ℕ = placed (pieces t) (placeIn s t) d in
+      moves-past (eqb place 0) (eqb d 1 && runsIn s t) (eqb place (pieces t - 1)) place
+      (omega (arith, mod-lt (placeIn s t + d) (ltb-true 0 (pieces t) c), r .few))
 
   arrived-past : drop readerBytes (arrivedOn s t count x) ≡ drop readerBytes s
   unfolding arrivedOn
-  arrived-past = arrives-past (eqb (distance (be16 s (recordAt t)) count) 0) (distance (be16 s (recordAt t)) count)
+  arrived-past = arrives-past (eqb (distance (lastIn s t) count) 0) (distance (lastIn s t) count)
 
 understood-past : (s : List ℕ) → readerBytes ≤ length s → (p : Packet) → Shaped Any p
     → drop readerBytes (understoodOn s p) ≡ drop readerBytes s

@@ -6,7 +6,7 @@ use mathlib.Core.List.{List, []}
 use mathlib.Core.Logic.{_⊎_, inl, inr}
 use Prim.Native.Nat.{ℕ, _-_, _≤_}
 use native.Mathlib.Omega.{arith}
-use lib.Dec.{eqb, ltb}
+use lib.Dec.{eqb, ltb, leb, leb→le}
 use lib.ListN.{length, take, length-take}
 use borrow.Author.Tests.{ltb-false}
 use Rattle.wire.specs.Wire.{be16, put}
@@ -16,9 +16,8 @@ use Rattle.paper.specs.Packets.{joined}
 use Rattle.paper.specs.Queue as Queue
 use Rattle.paper.specs.Reader.{Track, fresh, distance, placed, Arrival, repeated, taken, finished, gathers, moves, arrives, arrive, Packet, packet, notCarried, noPacket, packetOf, sound, Reader, Heard, heard, received, understood, readerStep}
 use Rattle.state.specs.Told.{Res, res}
-use Rattle.state.proofs.Apart.{by-row}
-use Rattle.shelf.specs.Layout.{recordAt}
-use Rattle.shelf.specs.View.{trackIn, readerIn}
+use Rattle.paper.proofs.Table.{rule}
+use Rattle.shelf.specs.View.{lastIn, trackIn, readerIn}
 use Rattle.shelf.specs.Range.{fit}
 use Rattle.shelf.proofs.Packets.{Shaped, shaped, Any}
 use Rattle.shelf.specs.Received.{arrivesOn, arrivedOn, understoodOn, receivedOn, toldOf, readOf}
@@ -67,16 +66,16 @@ packet-kept : (s : List ℕ) (t count : ℕ) (x : List ℕ) → carried t ≡ tr
 unfolding arrivedOn arrive readerIn trackIn
 packet-kept s t count x c =
     subst (λ (k : Track (List ℕ)). Kept (received (readerIn s) t (arrive (pieces t) k count x) .reply) (arrivedOn s t count x) s)
-    (sym own) (at (eqb (distance (be16 s (recordAt t)) count) 0))
+    (sym own) (at (eqb (distance (lastIn s t) count) 0))
   where
     own : readerIn s t ≡ trackIn s t
     own = ap (λ (b : Bool). cond b (trackIn s t) (fresh (pieces t))) c
 
     at : (b : Bool)
-        → Kept (received (readerIn s) t (arrives b (pieces t) (trackIn s t) count (distance (be16 s (recordAt t)) count) x) .reply)
-        (arrivesOn s t b count (distance (be16 s (recordAt t)) count) x) s
+        → Kept (received (readerIn s) t (arrives b (pieces t) (trackIn s t) count (distance (lastIn s t) count) x) .reply)
+        (arrivesOn s t b count (distance (lastIn s t) count) x) s
     at true = inl refl
-    at false = inr (arrives-moved (readerIn s) t (pieces t) (trackIn s t) count (distance (be16 s (recordAt t)) count) x)
+    at false = inr (arrives-moved (readerIn s) t (pieces t) (trackIn s t) count (distance (lastIn s t) count) x)
 
 understood-kept : (s : List ℕ) (p : Packet) → Shaped Any p → Kept (understood (readerIn s) p .reply) (understoodOn s p) s
 unfolding understood understoodOn
@@ -104,9 +103,7 @@ abbrev Written : Heard → Type 0
 Written h = (h .out ≡ []) ⊎ ((h .reply ≡ 1) × (length (h .out) ≤ 776))
 
 pub listed-most : (t : ℕ) → listed t ≤ 776
-listed-most =
-    by-row (λ t r. r .listed ≤ 776) (omega arith) (omega arith) (omega arith) (omega arith) (omega arith) (omega arith) (omega arith)
-    (λ t. omega arith)
+listed-most t = leb→le _ _ (rule (λ r. true) (λ r. leb (r .listed) 776) tt (λ k. tt) t refl)
 
 received-written : (r : Reader) (t : ℕ) (a : Arrival (List ℕ)) → Written (received r t a)
 unfolding received

@@ -16,15 +16,16 @@ use Rattle.paper.specs.Queue as Queue
 use Rattle.paper.specs.Reader.{Track, fresh, distance, placed, gathers, moves, arrives, arrive, Packet, packet, notCarried, noPacket, packetOf, sound, Reader, Heard, heard, received, understood, readerStep}
 use Rattle.state.specs.Told.{res}
 use Rattle.state.specs.Calls.{Bytes}
+use Rattle.state.proofs.Apart.{be16-same}
 use Rattle.paper.proofs.Table.{Carried, carried-rules}
-use Rattle.shelf.specs.Layout.{recordAt, placeAt, markAt, gatherAt, pieceAt, readerBytes}
-use Rattle.shelf.specs.View.{trackIn, readerIn}
-use Rattle.shelf.specs.Range.{Fits, Fit}
+use Rattle.shelf.specs.Layout.{markAt, placeAt, gatherAt, pieceAt, readerBytes}
+use Rattle.shelf.specs.View.{lastIn, placeIn, runsIn, trackIn, readerIn}
+use Rattle.shelf.specs.Range.{Fit}
 use Rattle.shelf.specs.Received.{recordedOn, gathersOn, movesOn, arrivesOn, arrivedOn, understoodOn, receivedOn, readOf}
 use Rattle.shelf.specs.Runs.{Left, Agrees}
 use Rattle.shelf.proofs.Ranges.{both, true-fit}
 use Rattle.shelf.proofs.Packets.{Shaped, shaped}
-use Rattle.shelf.proofs.Gathered.{piece-snoc, Elsewhere, elsewhere-trans, record-elsewhere, body-elsewhere, record-track, record-fits, track-same, fits-same, follows}
+use Rattle.shelf.proofs.Gathered.{piece-snoc, Elsewhere, elsewhere-trans, record-elsewhere, body-elsewhere, record-track, track-same, follows}
 
 -- nothing stored
 untouched : (s : List ℕ) → Fit s → Left s s (readerIn s)
@@ -33,15 +34,15 @@ untouched s f = record { held = refl; fits = f; long = refl; past = refl }
 -- ---- one stream's record anew
 
 module _ (s : List ℕ) (f : Fit s) (t : ℕ) (c : carried t ≡ true) where
-  left : (x : List ℕ) (k : Track (List ℕ)) → Elsewhere x s t → Fits x t → trackIn x t ≡ k → Left x s (Queue.put (readerIn s) t k)
+  left : (x : List ℕ) (k : Track (List ℕ)) → Elsewhere x s t → trackIn x t ≡ k → Left x s (Queue.put (readerIn s) t k)
   unfolding readerIn Queue.put
-  left x k e g h =
+  left x k e h =
       record {
         held = fun-ext (λ u. at u (eqb t u) refl (carried u) refl);
         fits =
             record {
               whole = omega (arith, f .whole, e .long);
-              tracks = λ u v. fitting u v (eqb t u) refl;
+              mark = be16-same (e .mark) markAt (omega arith) (omega arith) ∙ f .mark;
             };
         long = e .long;
         past = e .past;
@@ -56,14 +57,9 @@ module _ (s : List ℕ) (f : Fit s) (t : ℕ) (c : carried t ≡ true) where
       at u false p true q =
           let r = carried-rules u q in
           rw q
-          (track-same x s (e .long) (f .whole) u (f .tracks u q) (e .tracks u (r .small) (eqb-false t u p)) (r .small) (r .few)
+          (track-same x s (e .long) (f .whole) u (ltb-true 0 (pieces u) q) (e .tracks u (r .small) (eqb-false t u p)) (r .small) (r .few)
           (e .gathered u (r .small) (eqb-false t u p)))
       at u false p false q = rw q
-
-      fitting : (u : ℕ) → carried u ≡ true → (a : Bool) → eqb t u ≡ a → Fits x u
-      fitting u v true p = subst (λ (n : ℕ). Fits x n) (eqb-true t u p) g
-      fitting u v false p =
-          fits-same x s (e .long) (f .whole) u (f .tracks u v) (e .tracks u (carried-rules u v .small) (eqb-false t u p))
 
   -- ---- a piece arrives
 
@@ -80,8 +76,7 @@ module _ (s : List ℕ) (f : Fit s) (t : ℕ) (c : carried t ≡ true) where
         (Queue.put (readerIn s) t (record { last = count; place = place; running = false; gathered = [] }))
     dropped-left place h =
         left (recordedOn s t count place 0) _ (record-elsewhere s whole t (r .small) count place 0)
-        (record-fits s whole t (r .small) count place 0 small h (omega arith))
-        (record-track s whole t (r .small) count place 0 (omega (arith, r .few)))
+        (record-track s whole t (r .small) count place 0 small h (r .few))
 
     -- what handing out or refusing to leaves
     handed : (b : Bool) (o : List ℕ) (q : Reader) → cond b (heard 1 o q) (heard 23 [] q) .next ≡ q
@@ -106,48 +101,44 @@ module _ (s : List ℕ) (f : Fit s) (t : ℕ) (c : carried t ≡ true) where
         all : (mark : ℕ) → Elsewhere (recordedOn y t count place mark) s t
         all mark = elsewhere-trans _ y s t (record-elsewhere y long t (r .small) count place mark) body
 
-        fits : (mark : ℕ) → mark ≤ 1 → Fits (recordedOn y t count place mark) t
-        fits mark = record-fits y long t (r .small) count place mark small h
-
         snoc : chunks 118 (suc place) (drop (gatherAt t) y) ≡ g
         snoc = piece-snoc s (gatherAt t) place x sized (omega (arith, r .few, r .small, whole)) ∙ e
 
         at : (b : Bool) → Left (recordedOn y t count place (cond b 0 1)) s (received (readerIn s) t (gathers b count place g) .next)
         at true =
             subst (λ (q : Reader). Left (recordedOn y t count place 0) s q) (sym (handed (sound t (joined g)) _ _))
-            (left (recordedOn y t count place 0) _ (all 0) (fits 0 (omega arith))
-            (record-track y long t (r .small) count place 0 (omega (arith, r .few))))
+            (left (recordedOn y t count place 0) _ (all 0) (record-track y long t (r .small) count place 0 small h (r .few)))
         at false =
-            left (recordedOn y t count place 1) _ (all 1) (fits 1 (omega arith))
-            (record-track y long t (r .small) count place 1 (omega (arith, r .few))
+            left (recordedOn y t count place 1) _ (all 1)
+            (record-track y long t (r .small) count place 1 small h (r .few)
             ∙ ap (λ (l : List (List ℕ)). record { last = count; place = place; running = true; gathered = l }) snoc)
 
-    moved-left : (d : ℕ) (anew goesOn atLast : Bool) → eqb (placed (pieces t) (getD s (placeAt t) 0) d) 0 ≡ anew
-        → (eqb d 1 && eqb (getD s (markAt t) 0) 1) ≡ goesOn
-        → Left (movesOn s t anew goesOn atLast count (placed (pieces t) (getD s (placeAt t) 0) d) x) s
+    moved-left : (d : ℕ) (anew goesOn atLast : Bool) → eqb (placed (pieces t) (placeIn s t) d) 0 ≡ anew
+        → (eqb d 1 && runsIn s t) ≡ goesOn
+        → Left (movesOn s t anew goesOn atLast count (placed (pieces t) (placeIn s t) d) x) s
         (received (readerIn s) t
-        (moves anew goesOn atLast count (placed (pieces t) (getD s (placeAt t) 0) d) (trackIn s t .gathered) x) .next)
+        (moves anew goesOn atLast count (placed (pieces t) (placeIn s t) d) (trackIn s t .gathered) x) .next)
     unfolding received trackIn
     moved-left d anew goesOn atLast = at anew goesOn
       where
         place : ℕ
-        place = placed (pieces t) (getD s (placeAt t) 0) d
+        place = placed (pieces t) (placeIn s t) d
 
         within : place < pieces t
-        within = mod-lt (getD s (placeAt t) 0 + d) (ltb-true 0 (pieces t) c)
+        within = mod-lt (placeIn s t + d) (ltb-true 0 (pieces t) c)
 
-        at : (anew goesOn : Bool) → eqb place 0 ≡ anew → (eqb d 1 && eqb (getD s (markAt t) 0) 1) ≡ goesOn
+        at : (anew goesOn : Bool) → eqb place 0 ≡ anew → (eqb d 1 && runsIn s t) ≡ goesOn
             → Left (movesOn s t anew goesOn atLast count place x) s
             (received (readerIn s) t (moves anew goesOn atLast count place (trackIn s t .gathered) x) .next)
         at true goesOn a g =
             gathered-left atLast place (x ∷ []) within
             (ap (λ (n : ℕ). chunks 118 n (drop (gatherAt t) s) ++ (x ∷ [])) (eqb-true place 0 a))
         at false true a g =
-            let h = both (eqb d 1) (eqb (getD s (markAt t) 0) 1) g in
+            let h = both (eqb d 1) (runsIn s t) g in
             let one : d ≡ 1 = eqb-true d 1 (h .0) in
-            let next : place ≡ suc (getD s (placeAt t) 0) =
-            ap (placed (pieces t) (getD s (placeAt t) 0)) one
-            ∙ follows (getD s (placeAt t) 0) (pieces t) (f .tracks t c .place) (rw one at a) in
+            let next : place ≡ suc (placeIn s t) =
+            ap (placed (pieces t) (placeIn s t)) one
+            ∙ follows (placeIn s t) (pieces t) (mod-lt (getD s (placeAt t) 0) (ltb-true 0 (pieces t) c)) (rw one at a) in
             gathered-left atLast place (trackIn s t .gathered ++ (x ∷ [])) within
             (rw (h .1) (ap (λ (n : ℕ). chunks 118 n (drop (gatherAt t) s) ++ (x ∷ [])) next))
         at false false a g = dropped-left place within
@@ -162,7 +153,7 @@ module _ (s : List ℕ) (f : Fit s) (t : ℕ) (c : carried t ≡ true) where
     unfolding arrivedOn arrive readerIn trackIn
     arrived-left =
         subst (λ (k : Track (List ℕ)). Left (arrivedOn s t count x) s (received (readerIn s) t (arrive (pieces t) k count x) .next))
-        (sym own) (arrives-left (distance (be16 s (recordAt t)) count) (eqb (distance (be16 s (recordAt t)) count) 0))
+        (sym own) (arrives-left (distance (lastIn s t) count) (eqb (distance (lastIn s t) count) 0))
       where
         own : readerIn s t ≡ trackIn s t
         own = ap (λ (b : Bool). cond b (trackIn s t) (fresh (pieces t))) c

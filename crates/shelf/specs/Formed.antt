@@ -10,7 +10,8 @@ use Rattle.wire.specs.Wire.{be16, part, put}
 use Rattle.paper.specs.Streams.{pieces, listed}
 use Rattle.paper.specs.Reader.{distance, placed, Packet, packet, notCarried, noPacket, packetOf, sound}
 use Rattle.state.specs.Told.{Res, res}
-use Rattle.shelf.specs.Layout.{recordAt, placeAt, markAt, gatherAt}
+use Rattle.shelf.specs.Layout.{gatherAt}
+use Rattle.shelf.specs.View.{lastIn, placeIn, runsIn}
 use Rattle.shelf.specs.Range.{fit}
 use Rattle.shelf.specs.Received.{recordedOn, gathersOn}
 
@@ -33,12 +34,12 @@ movesTo s t false false atLast count place x o = res 0 o (recordedOn s t count p
 abbrev pub arrivesTo : List ℕ → ℕ → Bool → ℕ → ℕ → List ℕ → List ℕ → Res
 arrivesTo s t true count d x o = res 22 o s
 arrivesTo s t false count d x o =
-    let place : ℕ = placed (pieces t) (getD s (placeAt t) 0) d in
-    movesTo s t (eqb place 0) (eqb d 1 && eqb (getD s (markAt t) 0) 1) (eqb place (pieces t - 1)) count place x o
+    let place : ℕ = placed (pieces t) (placeIn s t) d in
+    movesTo s t (eqb place 0) (eqb d 1 && runsIn s t) (eqb place (pieces t - 1)) count place x o
 
 unfoldable pub arrivedTo : List ℕ → ℕ → ℕ → List ℕ → List ℕ → Res
 arrivedTo s t count x o =
-    let d : ℕ = distance (be16 s (recordAt t)) count in
+    let d : ℕ = distance (lastIn s t) count in
     arrivesTo s t (eqb d 0) count d x o
 
 unfoldable pub understoodTo : List ℕ → Packet → List ℕ → Res

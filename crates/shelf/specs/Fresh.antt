@@ -1,27 +1,27 @@
 -- Lent bytes that hold a fresh reader, later bytes staying.
 -- Assumes nothing.
 use mathlib.Core.Bool.{cond}
-use mathlib.Core.List.{List, [], _++_}
+use mathlib.Core.List.{List}
 use Prim.Native.Nat.{ℕ, zero, suc, _-_}
 use lib.Dec.{leb}
 use lib.ListN.{length, replicate}
-use Rattle.wire.specs.Wire.{put}
+use Rattle.wire.specs.Wire.{bytes16, put}
 use Rattle.paper.specs.Streams.{pieces}
 use Rattle.state.specs.Told.{Told, told}
-use Rattle.shelf.specs.Layout.{streams, readerBytes}
-use Rattle.shelf.specs.Received.{recordOf}
+use Rattle.shelf.specs.Layout.{markAt, readerMark, streams, readerBytes}
+use Rattle.shelf.specs.Received.{recordedOn}
 
 unfoldable pub zeros : List ℕ
 zeros = replicate readerBytes 0
 
--- "A fresh record has last count 4095, the last place and no gathering": those of n streams from t on. (Of no pieces there is no
+-- "A fresh record has last count 4095, the last place and no gathering": those of the streams below n. (Of no pieces there is no
 -- last place: 0.)
-abbrev pub freshRecords : ℕ → ℕ → List ℕ
-freshRecords t zero = []
-freshRecords t (suc n) = recordOf 4095 (pieces t - 1) 0 ++ freshRecords (suc t) n
+unfoldable pub freshOn : List ℕ → ℕ → List ℕ
+freshOn s zero = s
+freshOn s (suc t) = recordedOn (freshOn s t) t 4095 (pieces t - 1) 0
 
 unfoldable pub startedOn : List ℕ → List ℕ
-startedOn s = put (put s 0 zeros) 0 (freshRecords 0 streams)
+startedOn s = freshOn (put (put s 0 zeros) markAt (bytes16 readerMark)) streams
 
 -- "Starting looks at the buffer's length alone: it replies 0 with a fresh state, later bytes staying, or .. (the reader 25) with
 -- nothing changed."

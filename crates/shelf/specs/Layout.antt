@@ -3,27 +3,34 @@
 -- Assumes nothing.
 use Prim.Native.Nat.{ℕ, _+_, _*_}
 
+-- the mark: the letters SR
+abbrev pub markAt : ℕ
+markAt = 0
+
+abbrev pub readerMark : ℕ
+readerMark = 0x5352
+
 -- streams have numbers below this
 abbrev pub streams : ℕ
 streams = 12
 
--- A stream's record: last count (2 bytes), place (1), mark (1): 1 where a gathering runs, else 0.
+-- A stream's record: last count (2 bytes), place (1), and 1 where a gathering runs (1).
 abbrev pub recordAt : ℕ → ℕ
-recordAt t = 4 * t
+recordAt t = 2 + 4 * t
 
 abbrev pub placeAt : ℕ → ℕ
-placeAt t = 4 * t + 2
+placeAt t = recordAt t + 2
 
-abbrev pub markAt : ℕ → ℕ
-markAt t = 4 * t + 3
+abbrev pub runsAt : ℕ → ℕ
+runsAt t = recordAt t + 3
 
 -- its gathered pieces: room for seven of 118 bytes, as many as a packet has at most
 abbrev pub gatherAt : ℕ → ℕ
-gatherAt t = 48 + 826 * t
+gatherAt t = 50 + 826 * t
 
 -- the piece of a place
 abbrev pub pieceAt : ℕ → ℕ → ℕ
 pieceAt t place = gatherAt t + 118 * place
 
 abbrev pub readerBytes : ℕ
-readerBytes = 9960
+readerBytes = 9962

@@ -10,8 +10,8 @@ use Rattle.wire.specs.Wire.{be16, put}
 use Rattle.paper.specs.Streams.{pieces}
 use Rattle.paper.specs.Reader.{distance, placed, Packet, packet, notCarried, noPacket, packetOf, Heard, readerStep}
 use Rattle.state.specs.Told.{Res, res}
-use Rattle.shelf.specs.Layout.{recordAt, placeAt, markAt, pieceAt}
-use Rattle.shelf.specs.View.{readerIn}
+use Rattle.shelf.specs.Layout.{recordAt, pieceAt}
+use Rattle.shelf.specs.View.{lastIn, placeIn, runsIn, readerIn}
 use Rattle.shelf.specs.Range.{fit}
 
 -- the four bytes of a record
@@ -35,12 +35,12 @@ movesOn s t false false atLast count place x = recordedOn s t count place 0
 abbrev pub arrivesOn : List ℕ → ℕ → Bool → ℕ → ℕ → List ℕ → List ℕ
 arrivesOn s t true count d x = s
 arrivesOn s t false count d x =
-    let place : ℕ = placed (pieces t) (getD s (placeAt t) 0) d in
-    movesOn s t (eqb place 0) (eqb d 1 && eqb (getD s (markAt t) 0) 1) (eqb place (pieces t - 1)) count place x
+    let place : ℕ = placed (pieces t) (placeIn s t) d in
+    movesOn s t (eqb place 0) (eqb d 1 && runsIn s t) (eqb place (pieces t - 1)) count place x
 
 unfoldable pub arrivedOn : List ℕ → ℕ → ℕ → List ℕ → List ℕ
 arrivedOn s t count x =
-    let d : ℕ = distance (be16 s (recordAt t)) count in
+    let d : ℕ = distance (lastIn s t) count in
     arrivesOn s t (eqb d 0) count d x
 
 unfoldable pub understoodOn : List ℕ → Packet → List ℕ

@@ -12,18 +12,19 @@ use native.Mathlib.Omega.{arith}
 use lib.Dec.{eqb, leb, ltb}
 use lib.ListN.{length, drop, getD}
 use lib.Seq.{drop-drop}
-use borrow.Author.Tests.{ltb-true, eqb-true}
+use borrow.Author.Tests.{ltb-true, lt-ltb, le-ltb}
 use Rattle.wire.specs.Wire.{be16, be24, part, put}
 use Rattle.wire.proofs.Runs.{part-ext, length-put, getD-put-before, getD-put-after}
 use Rattle.impact.specs.Window.{windowOf}
 use Rattle.impact.proofs.Packing.{wordsOf-same}
 use Rattle.paper.specs.Mode.{modeOf}
-use Rattle.paper.specs.Streams.{Row, row, rowOf, den, width}
+use Rattle.paper.specs.Streams.{perPacket, width, form}
 use Rattle.paper.specs.Packets.{chunks}
 use Rattle.paper.specs.Queue.{piece}
 use Rattle.paper.specs.Controller.{nothingOpen, withStreams}
-use Rattle.state.specs.Layout.{flagAt, impactTimeAt, impactModeAt, windowAt, placeAt, furtherAt, firstAt, waitingAt, housedAt, streams, countAt, openAt, samplesAt, staysOpen, ringAt, slotsAt, slotAt, stateBytes}
-use Rattle.state.specs.View.{clockIn, standingIn, collectionOf, ringFrom, impactIn, talliesIn, twelve, samplesIn, openOf, openIn, countIn, pieceIn, piecesIn, view}
+use Rattle.paper.proofs.Table.{several-rules}
+use Rattle.state.specs.Layout.{flagAt, impactTimeAt, impactModeAt, windowAt, placeAt, furtherAt, firstAt, waitingAt, housedAt, streams, countAt, openAt, samplesAt, ringAt, slotsAt, slotAt, stateBytes}
+use Rattle.state.specs.View.{clockIn, standingIn, collectionOf, ringFrom, impactIn, talliesIn, twelve, kept, samplesIn, openOf, heldIn, openIn, countIn, pieceIn, piecesIn, view}
 use Rattle.state.specs.Range.{Fit}
 
 -- ---- two lists that agree on the bytes from lo to below hi
@@ -176,33 +177,64 @@ module _ (x y : List ℕ) where
 
 -- ---- open packets: streams whose packets stay open have room for their samples
 
--- what holds of each row of the table, and of a stream without one, holds of every stream's row
-pub by-row : (P : ℕ → Row → Type 0) → P 0x2 (row 0x2 7 776 0 0) → P 0x4 (row 0x4 1 116 36 3) → P 0x5 (row 0x5 1 116 72 2)
-    → P 0x6 (row 0x6 1 116 36 3) → P 0x9 (row 0x9 1 116 18 6) → P 0xA (row 0xA 1 118 0 0) → P 0xB (row 0xB 5 520 1 512)
-    → ((t : ℕ) → P t (row t 0 0 0 0)) → (t : ℕ) → P t (rowOf t)
-unfolding rowOf
-by-row P p2 p4 p5 p6 p9 pa pb none t =
-    at (row 0x2 7 776 0 0) _ (eqb t 0x2) refl p2
-    (at (row 0x4 1 116 36 3) _ (eqb t 0x4) refl p4
-    (at (row 0x5 1 116 72 2) _ (eqb t 0x5) refl p5
-    (at (row 0x6 1 116 36 3) _ (eqb t 0x6) refl p6
-    (at (row 0x9 1 116 18 6) _ (eqb t 0x9) refl p9
-    (at (row 0xA 1 118 0 0) _ (eqb t 0xA) refl pa (at (row 0xB 5 520 1 512) _ (eqb t 0xB) refl pb (none t)))))))
+-- a packet is never full while it is open
+pub held-room : (s : List ℕ) (t : ℕ) → (heldIn s t ≡ 0) ⊎ (heldIn s t < perPacket t)
+unfolding heldIn
+held-room s t = at (ltb (getD s (openAt t) 0) (perPacket t)) refl
   where
-    at : (r rest : Row) (b : Bool) → eqb t (r .stream) ≡ b → P (r .stream) r → P t rest → P t (cond b r rest)
-    at r rest true e p q = subst (λ (n : ℕ). P n r) (sym (eqb-true t (r .stream) e)) p
-    at r rest false e p q = q
+    n : ℕ
+    n = getD s (openAt t) 0
 
-not-both : false ≡ true → ⊥
-not-both h = let z : _≡_ {A = ℕ} 0 1 = cc in omega arith
+    at : (b : Bool) → ltb n (perPacket t) ≡ b → (cond b n 0 ≡ 0) ⊎ (cond b n 0 < perPacket t)
+    at true e = inr (ltb-true n (perPacket t) e)
+    at false e = inl refl
 
-pub open-room : (s : List ℕ) → Fit s → (t : ℕ) → staysOpen t ≡ true → (t < streams) × (getD s (openAt t) 0 * width t ≤ 145)
-open-room s f =
-    by-row (λ t r. ltb 1 (r .samples) ≡ true → (t < streams) × (getD s (openAt t) 0 * r .width ≤ 145)) (λ h. absurd (not-both h))
-    (λ h. (omega arith, omega arith)) (λ h. (omega arith, omega arith)) (λ h. (omega arith, omega arith))
-    (λ h. (omega arith, omega arith)) (λ h. absurd (not-both h)) (λ h. absurd (not-both h)) (λ t h. absurd (not-both h))
+pub times-le : (n m w : ℕ) → n ≤ m → n * w ≤ m * w
+times-le zero m w h = rw (zero-mul w) (omega arith)
+times-le (suc n) zero w h = absurd (omega arith)
+times-le (suc n) (suc m) w h = rw (suc-mul n w, suc-mul m w) (omega (arith, times-le n m w (omega arith)))
 
-module _ (x y : List ℕ) (fit : Fit x) (whole : stateBytes ≤ length y) where
+-- samples that are held are those of a stream of several, and there is room for them
+pub open-room : (s : List ℕ) (t : ℕ) → 0 < heldIn s t → (t < streams) × (heldIn s t * width t ≤ 145)
+open-room s t h = ⊎-elim (λ z. absurd (omega arith)) fewer (held-room s t)
+  where
+    fewer : heldIn s t < perPacket t → (t < streams) × (heldIn s t * width t ≤ 145)
+    fewer l =
+        let r = several-rules t (lt-ltb 1 (perPacket t) (omega arith)) in
+        (r .small, omega (arith, r .bytes, times-le (heldIn s t) (perPacket t) (width t) (omega arith)))
+
+-- a number that an open packet can have is what it says
+pub held-byte : (s : List ℕ) (t n : ℕ) → getD s (openAt t) 0 ≡ n → n < perPacket t → heldIn s t ≡ n
+unfolding heldIn
+held-byte s t n e l = rw (e, lt-ltb n (perPacket t) l)
+
+-- any other says nothing
+pub none-byte : (s : List ℕ) (t : ℕ) → perPacket t ≤ getD s (openAt t) 0 → heldIn s t ≡ 0
+unfolding heldIn
+none-byte s t l = rw (le-ltb (getD s (openAt t) 0) (perPacket t) l)
+
+-- past the last stream nothing is held
+none-held : (s : List ℕ) (t : ℕ) → (t < streams → ⊥) → heldIn s t ≡ 0
+none-held s t n = at (heldIn s t) refl
+  where
+    at : (k : ℕ) → heldIn s t ≡ k → k ≡ 0
+    at zero e = refl
+    at (suc k) e = absurd (n (open-room s t (omega arith) .0))
+
+-- where the number that is kept is 0, no packet is open
+pub shut-open : (s : List ℕ) (t : ℕ) → (t < streams → getD s (openAt t) 0 ≡ 0) → openIn s t ≡ nothingOpen
+unfolding openIn heldIn
+shut-open s t z = ap (openOf s t) (at (decLt t streams))
+  where
+    at : Dec (t < streams) → heldIn s t ≡ 0
+    at (yes l) = zeros (ltb (getD s (openAt t) 0) (perPacket t)) (z l)
+      where
+        zeros : (b : Bool) → getD s (openAt t) 0 ≡ 0 → cond b (getD s (openAt t) 0) 0 ≡ 0
+        zeros true e = e
+        zeros false e = refl
+    at (no l) = none-held s t l
+
+module _ (x y : List ℕ) (wx : stateBytes ≤ length x) (wy : stateBytes ≤ length y) where
   openOf-same : (t n : ℕ) → t < streams → n * width t ≤ 145 → Same x y (openAt t) (openAt t + 150) → openOf x t n ≡ openOf y t n
   unfolding samplesIn
   openOf-same t zero l h p = refl
@@ -215,22 +247,26 @@ module _ (x y : List ℕ) (fit : Fit x) (whole : stateBytes ≤ length y) where
               time = be24-same p (openAt t + 1) (omega arith) (omega arith) i;
               mode = p .byte (openAt t + 4) (omega arith) (omega arith) i;
             };
-        samples = cond (eqb t den) (map twelve (samples i)) (samples i);
+        samples = kept (form t) (samples i);
       }
+
+  held-same : (t : ℕ) → Same x y (openAt t) (openAt t + 150) → heldIn x t ≡ heldIn y t
+  unfolding heldIn
+  held-same t p =
+      ap (λ (n : ℕ). cond (ltb n (perPacket t)) n 0) (p .byte (openAt t) (omega arith) (omega arith))
 
   -- where packets of stream t stay open, the bytes that hold one agree
   pub open-where : (t : ℕ) → (t < streams → Same x y (openAt t) (openAt t + 150)) → openIn x t ≡ openIn y t
   unfolding openIn
-  open-where t p = at (staysOpen t) refl
+  open-where t p = at (decLt t streams)
     where
-      at : (b : Bool) → staysOpen t ≡ b
-          → cond b (openOf x t (getD x (openAt t) 0)) nothingOpen ≡ cond b (openOf y t (getD y (openAt t) 0)) nothingOpen
-      at true e =
-          let room = open-room x fit t e in
-          let same = p (room .0) in
-          openOf-same t (getD x (openAt t) 0) (room .0) (room .1) same
-          ∙ ap (openOf y t) (same .byte (openAt t) (omega arith) (omega arith))
-      at false e = refl
+      some : Same x y (openAt t) (openAt t + 150) → t < streams → (n : ℕ) → heldIn x t ≡ n → openOf x t n ≡ openOf y t n
+      some same l zero e = refl
+      some same l (suc n) e = openOf-same t (suc n) l (rw e at (open-room x t (omega arith) .1)) same
+
+      at : Dec (t < streams) → openOf x t (heldIn x t) ≡ openOf y t (heldIn y t)
+      at (yes l) = some (p l) l (heldIn x t) refl ∙ ap (openOf y t) (held-same t (p l))
+      at (no l) = ap (openOf x t) (none-held x t l) ∙ ap (openOf y t) (sym (none-held y t l))
 
   pub open-same : (t : ℕ) → Same x y (openAt t) (openAt t + 150) → openIn x t ≡ openIn y t
   open-same t p = open-where t (λ l. p)
@@ -283,11 +319,11 @@ streams-same x y f w p q r i =
 
 -- ---- ranges
 
--- bytes in range stay so where the first bytes agree, and the queue's numbers and the open packets' are in range
+-- bytes in range stay so where the first bytes agree, and the queue's numbers are in range
 pub fit-same : (x y : List ℕ) → Fit y → stateBytes ≤ length x → Same x y 0 firstAt → getD x firstAt 0 < 48
     → getD x waitingAt 0 ≤ 48
-    → ((t : ℕ) → t < streams → (getD x (openAt t) 0 ≡ getD y (openAt t) 0) ⊎ (getD x (openAt t) 0 ≡ 0)) → Fit x
-fit-same x y f w p first waiting opens =
+    → Fit x
+fit-same x y f w p first waiting =
     record {
       whole = w;
       m = omega (arith, be16-same p 6 (omega arith) (omega arith));
@@ -298,14 +334,7 @@ fit-same x y f w p first waiting opens =
       further = omega (arith, be16-same p 25 (omega arith) (omega arith));
       first = first;
       waiting = waiting;
-      open4 = below 4 36 (omega arith) (omega arith) (omega arith);
-      open5 = below 5 72 (omega arith) (omega arith) (omega arith);
-      open6 = below 6 36 (omega arith) (omega arith) (omega arith);
-      open9 = below 9 18 (omega arith) (omega arith) (omega arith);
     }
-  where
-    below : (t n : ℕ) → t < streams → 0 < n → getD y (openAt t) 0 < n → getD x (openAt t) 0 < n
-    below t n l z b = ⊎-elim (λ e. omega arith) (λ e. omega arith) (opens t l)
 
 -- ---- a run that is stored elsewhere
 
@@ -345,11 +374,11 @@ module _ (s : List ℕ) (at : ℕ) (v : List ℕ) (fits : at + length v ≤ leng
   pub counts-apart : Outside at v (countAt 0) (openAt 0) → countIn (put s at v) ≡ countIn s
   counts-apart h = counts-same (put s at v) s (put-same s at v fits (countAt 0) (openAt 0) h)
 
-  pub open-apart : Fit s → (t : ℕ) → Outside at v (openAt t) (openAt t + 150) → openIn (put s at v) t ≡ openIn s t
-  open-apart f t h = sym (open-same s (put s at v) f still t (same-sym (put-same s at v fits (openAt t) (openAt t + 150) h)))
+  pub open-apart : (t : ℕ) → Outside at v (openAt t) (openAt t + 150) → openIn (put s at v) t ≡ openIn s t
+  open-apart t h = open-same (put s at v) s still whole t (put-same s at v fits (openAt t) (openAt t + 150) h)
 
-  pub opened-apart : Fit s → Outside at v (openAt 0) ringAt → openIn (put s at v) ≡ openIn s
-  opened-apart f h = sym (opened-same s (put s at v) f still (same-sym (put-same s at v fits (openAt 0) ringAt h)))
+  pub opened-apart : Outside at v (openAt 0) ringAt → openIn (put s at v) ≡ openIn s
+  opened-apart h = opened-same (put s at v) s still whole (put-same s at v fits (openAt 0) ringAt h)
 
   -- a store below the slots leaves every piece
   pub pieces-apart : at + length v ≤ slotsAt → (i n : ℕ) → piecesIn (put s at v) i n ≡ piecesIn s i n

@@ -9,7 +9,7 @@ use lib.Dec.{leb, ltb}
 use lib.ListN.{length, getD}
 use borrow.Author.Tests.{ltb-true, leb-true, lt-ltb, le-leb}
 use Rattle.wire.specs.Wire.{be16}
-use Rattle.state.specs.Layout.{mAt, nibbleAt, flagAt, windowAt, placeAt, furtherAt, firstAt, waitingAt, openAt, stateBytes}
+use Rattle.state.specs.Layout.{mAt, nibbleAt, flagAt, windowAt, placeAt, furtherAt, firstAt, waitingAt, stateBytes}
 use Rattle.state.specs.Range.{inRange, Fit, fit}
 
 -- a test and those after it, all true
@@ -39,10 +39,6 @@ fit-true s h =
     let place = lt-and (be16 s placeAt) 512 _ (window .1) in
     let further = le-and (be16 s furtherAt) 448 _ (place .1) in
     let first = lt-and (getD s firstAt 0) 48 _ (further .1) in
-    let waiting = le-and (getD s waitingAt 0) 48 _ (first .1) in
-    let open4 = lt-and (getD s (openAt 4) 0) 36 _ (waiting .1) in
-    let open5 = lt-and (getD s (openAt 5) 0) 72 _ (open4 .1) in
-    let open6 = lt-and (getD s (openAt 6) 0) 36 _ (open5 .1) in
     record {
       whole = whole .0;
       m = m .0;
@@ -52,11 +48,7 @@ fit-true s h =
       place = place .0;
       further = further .0;
       first = first .0;
-      waiting = waiting .0;
-      open4 = open4 .0;
-      open5 = open5 .0;
-      open6 = open6 .0;
-      open9 = ltb-true (getD s (openAt 9) 0) 18 (open6 .1);
+      waiting = leb-true (getD s waitingAt 0) 48 (first .1);
     }
 
 pub true-fit : (s : List ℕ) → Fit s → fit s ≡ true
@@ -72,8 +64,4 @@ true-fit s f =
       le-leb _ _ (f .further),
       lt-ltb _ _ (f .first),
       le-leb _ _ (f .waiting),
-      lt-ltb _ _ (f .open4),
-      lt-ltb _ _ (f .open5),
-      lt-ltb _ _ (f .open6),
-      lt-ltb _ _ (f .open9),
     )

@@ -62,17 +62,19 @@ furtherAt = 25
 abbrev pub commandsAt : ℕ
 commandsAt = 27
 
+-- a count for each channel: A's, and B's behind it
+abbrev pub forChannel : ℕ → Channel → ℕ
+forChannel at cdmuA = at
+forChannel at cdmuB = at + 2
+
 abbrev pub broadcastsAt : Channel → ℕ
-broadcastsAt cdmuA = 29
-broadcastsAt cdmuB = 31
+broadcastsAt = forChannel 29
 
 abbrev pub packetsAt : Channel → ℕ
-packetsAt cdmuA = 33
-packetsAt cdmuB = 35
+packetsAt = forChannel 33
 
 abbrev pub telemetryAt : Channel → ℕ
-telemetryAt cdmuA = 37
-telemetryAt cdmuB = 39
+telemetryAt = forChannel 37
 
 abbrev pub errorsAt : ℕ
 errorsAt = 41

@@ -6,7 +6,7 @@ use Prim.Native.Nat.{ℕ, _+_, _≤_, _<_}
 use lib.Dec.{leb, ltb}
 use lib.ListN.{length, getD}
 use Rattle.wire.specs.Wire.{be16}
-use Rattle.state.specs.Layout.{mAt, nibbleAt, flagAt, windowAt, placeAt, furtherAt, firstAt, waitingAt, openAt, stateBytes}
+use Rattle.state.specs.Layout.{mAt, nibbleAt, flagAt, windowAt, placeAt, furtherAt, firstAt, waitingAt, stateBytes}
 
 -- the numbers that have a range, in the order of the bytes
 unfoldable pub inRange : List ℕ → Bool
@@ -18,10 +18,7 @@ inRange s =
     && (ltb (be16 s placeAt) 512
     && (leb (be16 s furtherAt) 448
     && (ltb (getD s firstAt 0) 48
-    && (leb (getD s waitingAt 0) 48
-    && (ltb (getD s (openAt 4) 0) 36
-    && (ltb (getD s (openAt 5) 0) 72
-    && (ltb (getD s (openAt 6) 0) 36 && ltb (getD s (openAt 9) 0) 18))))))))))
+    && leb (getD s waitingAt 0) 48))))))
 
 -- the same as facts, with the length
 pub record Fit (s : List ℕ) : Type 0 where
@@ -34,10 +31,6 @@ pub record Fit (s : List ℕ) : Type 0 where
   pub further : be16 s furtherAt ≤ 448
   pub first : getD s firstAt 0 < 48
   pub waiting : getD s waitingAt 0 ≤ 48
-  pub open4 : getD s (openAt 4) 0 < 36
-  pub open5 : getD s (openAt 5) 0 < 72
-  pub open6 : getD s (openAt 6) 0 < 36
-  pub open9 : getD s (openAt 9) 0 < 18
 
 -- lent bytes that a call takes
 unfoldable pub fit : List ℕ → Bool

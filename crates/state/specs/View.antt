@@ -12,11 +12,11 @@ use Rattle.paper.specs.Frames.{Channel, cdmuA, cdmuB}
 use Rattle.paper.specs.Clock.{Clock}
 use Rattle.paper.specs.Mode.{modeOf, Standing}
 use Rattle.paper.specs.Impact.{Impact, Stamp, Collection, idle, running}
-use Rattle.paper.specs.Streams.{den, width}
+use Rattle.paper.specs.Streams.{Form, ofBytes, of12Bits, perPacket, width, form}
 use Rattle.paper.specs.Packets.{chunks}
 use Rattle.paper.specs.Queue.{Piece, piece}
 use Rattle.paper.specs.Controller.{Both, Tallies, Open, nothingOpen, Controller}
-use Rattle.state.specs.Layout.{timeAt, altitudeAt, spinAt, phaseAt, mAt, nibbleAt, entryTimeAt, oldAt, entryAltitudeAt, referenceAt, flagAt, impactTimeAt, impactModeAt, windowAt, placeAt, furtherAt, commandsAt, broadcastsAt, packetsAt, telemetryAt, errorsAt, codeAt, sequenceAt, idAt, firstAt, waitingAt, housedAt, streams, countAt, openAt, samplesAt, staysOpen, ringAt, slotAt}
+use Rattle.state.specs.Layout.{timeAt, altitudeAt, spinAt, phaseAt, mAt, nibbleAt, entryTimeAt, oldAt, entryAltitudeAt, referenceAt, flagAt, impactTimeAt, impactModeAt, windowAt, placeAt, furtherAt, commandsAt, broadcastsAt, packetsAt, telemetryAt, errorsAt, codeAt, sequenceAt, idAt, firstAt, waitingAt, housedAt, streams, countAt, openAt, samplesAt, ringAt, slotAt}
 
 unfoldable pub clockIn : List ℕ → Clock
 clockIn s =
@@ -65,14 +65,17 @@ talliesIn s =
       id = getD s idAt 0;
     }
 
--- a DEN sample: two bytes, of whose number twelve bits count
+-- of a value of 12 bits, which comes as two bytes, twelve bits count
 abbrev pub twelve : List ℕ → List ℕ
 twelve x = bytes16 (be16 x 0 % 4096)
 
+abbrev pub kept : Form → List (List ℕ) → List (List ℕ)
+kept ofBytes xs = xs
+kept of12Bits xs = map twelve xs
+
 -- n samples of stream t, as they came
 unfoldable pub samplesIn : List ℕ → ℕ → ℕ → List (List ℕ)
-samplesIn s t n =
-    cond (eqb t den) (map twelve (chunks (width t) n (drop (samplesAt t) s))) (chunks (width t) n (drop (samplesAt t) s))
+samplesIn s t n = kept (form t) (chunks (width t) n (drop (samplesAt t) s))
 
 -- the open packet of stream t, which has n samples
 abbrev pub openOf : List ℕ → ℕ → ℕ → Open
@@ -83,8 +86,12 @@ openOf s t (suc n) =
       samples = samplesIn s t (suc n);
     }
 
+-- how many it has: the number that is kept, and 0 where that is more than an open packet can have
+unfoldable pub heldIn : List ℕ → ℕ → ℕ
+heldIn s t = cond (ltb (getD s (openAt t) 0) (perPacket t)) (getD s (openAt t) 0) 0
+
 unfoldable pub openIn : List ℕ → ℕ → Open
-openIn s t = cond (staysOpen t) (openOf s t (getD s (openAt t) 0)) nothingOpen
+openIn s t = openOf s t (heldIn s t)
 
 -- "modulo 4096": the count that the next piece of stream t takes
 unfoldable pub countIn : List ℕ → ℕ → ℕ

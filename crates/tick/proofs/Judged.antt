@@ -12,10 +12,10 @@ use Rattle.wire.proofs.Runs.{length-put, be16-put-before, be16-put-after}
 use Rattle.paper.specs.Frames.{tick}
 use Rattle.paper.specs.Clock.{ticked}
 use Rattle.paper.specs.Impact.{above}
-use Rattle.paper.specs.Streams.{rowOf}
+use Rattle.paper.specs.Streams.{acc-i}
 use Rattle.paper.specs.Controller.{Controller}
 use Rattle.paper.specs.Acts.{counted}
-use Rattle.paper.specs.Step.{reply}
+use Rattle.paper.specs.Step.{crowded, reply}
 use Rattle.impact.specs.Window.{moved}
 use Rattle.state.specs.Layout.{mAt, nibbleAt, windowAt, placeAt, furtherAt, waitingAt, ringAt}
 use Rattle.state.specs.View.{view}
@@ -28,9 +28,9 @@ use Rattle.machine.proofs.Ticks.{completes-view, counted-view, counted-fit, tak
 -- 4 for a reading out of range, 7 for a completing tick without seven free slots
 pub tick-reply : (s : List ℕ) (r : ℕ) → replyTo s (tick r)
     ≡ cond (ltb 4095 r) 4
-    (cond ((eqb (getD s nibbleAt 0 % 8) 4 && eqb (be16 s furtherAt) 448) && ltb (48 - getD s waitingAt 0) 7) 7 0)
-unfolding reply rowOf
-tick-reply s r = rw (completes-view s, queue-length s)
+    (cond ((eqb (getD s nibbleAt 0 % 8) 4 && eqb (be16 s furtherAt) 448) && crowded (view s) acc-i) 7 0)
+unfolding reply
+tick-reply s r = rw (completes-view s)
 
 module _ (s : List ℕ) (r : ℕ) (f : Fit s) (b : r < 4096) where
   pub read-waits : getD (takenOn (countedOn s) r) waitingAt 0 ≡ getD s waitingAt 0

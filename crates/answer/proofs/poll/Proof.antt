@@ -24,8 +24,8 @@ show-requires c κs = search needs
 drop-first-requires : tie.Need-drop-first-requires
 drop-first-requires c κs = search needs
 
-count-at-requires : tie.Need-count-at-requires
-count-at-requires c κs = search needs
+channel-at-requires : tie.Need-channel-at-requires
+channel-at-requires c κs = search needs
 
 raise-requires : tie.Need-raise-requires
 raise-requires c κs = search needs
@@ -38,7 +38,7 @@ same-length-2 c = search needs
 
 returns-2 : tie.Need-returns-2
 unfolding answered reply view polledOn
-returns-2 c = rw (length-pieces, ne-eqb _ _ (c .before .before .before .before .before .before .before .before .before .before .before .before .before .before .if1 .left), c .before .before .raise .ensures, c .before .before .before .count-at .ensures .0, c .before .before .before .before .before .before .before .drop-first .ensures, c .before .before .before .before .before .before .before .before .before .before .before .show .ensures)
+returns-2 c = rw (length-pieces, ne-eqb _ _ (c .before .before .before .before .before .before .before .before .before .before .before .before .before .before .if1 .left), c .before .before .raise .ensures, c .before .before .before .channel-at .ensures .0, c .before .before .before .before .before .before .before .drop-first .ensures, c .before .before .before .before .before .before .before .before .before .before .before .show .ensures)
 
 pub poll-spec : {M : Type 1} → statement M
 poll-spec =
@@ -48,7 +48,7 @@ poll-spec =
     returns
     show-requires
     drop-first-requires
-    count-at-requires
+    channel-at-requires
     raise-requires
     same-length
     same-length-2

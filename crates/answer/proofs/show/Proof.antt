@@ -10,8 +10,8 @@ use Rattle.answer.proofs.show.Tie as tie
 packet-id-requires : tie.Need-packet-id-requires
 packet-id-requires c κs = search needs
 
-count-at-requires : tie.Need-count-at-requires
-count-at-requires c κs = search needs
+channel-at-requires : tie.Need-channel-at-requires
+channel-at-requires c κs = search needs
 
 get16-requires : tie.Need-get16-requires
 get16-requires c κs = search needs
@@ -43,11 +43,8 @@ shared-slice-read-size c = search needs
 size-requires : tie.Need-size-requires
 size-requires c κs = search needs
 
-mul-copy-part : tie.Need-mul-copy-part
-mul-copy-part c = search needs
-
-add-copy-part : tie.Need-add-copy-part
-add-copy-part c = search needs
+slot-at-requires : tie.Need-slot-at-requires
+slot-at-requires c κs = search needs
 
 copy-part-requires : tie.Need-copy-part-requires
 copy-part-requires c κs = search needs
@@ -56,14 +53,14 @@ same-length : tie.Need-same-length
 same-length c = search needs
 
 returns : tie.Need-returns
-returns c = c .before .before .copy-part .ensures ∙ rw (c .before .before .before .size .ensures .0, c .before .before .before .before .before .before .before .before .copy-to .ensures, c .before .before .before .before .before .before .before .before .before .before .before .before .before .before .hi .ensures, c .before .before .before .before .before .before .before .before .before .before .before .before .before .lo .ensures, c .before .before .before .before .before .before .before .before .before .before .before .before .hi2 .ensures, c .before .before .before .before .before .before .before .before .before .before .before .lo2 .ensures, c .before .before .before .before .before .before .before .before .before .before .before .before .before .before .before .before .before .packet-id .ensures, c .before .before .before .before .before .before .before .before .before .before .before .before .before .before .before .get16 .ensures, c .before .before .before .before .before .before .before .before .before .before .before .before .before .before .before .before .count-at .ensures .0) (shows (c .before .before .before .before .before .before .before .before .before .before .before .before .before .before .before .before .before .before .before .before .args .s .now) (c .before .before .before .before .before .before .before .before .before .before .before .before .before .before .before .before .before .before .before .before .pre .0) (λ i. c .before .before .before .before .before .before .before .before .before .before .before .before .before .before .before .before .before .before .before .shared-slice-known .given i .fits) (c .before .before .before .before .before .before .before .before .before .before .before .before .before .before .before .before .before .before .before .before .pre .1) (c .before .before .before .before .before .before .before .before .before .before .before .before .before .before .before .before .before .before .before .before .args .out .now) (channel (c .before .before .before .before .before .before .before .before .before .before .before .before .before .before .before .before .before .before .before .before .args .side)) (c .before .before .before .before .before .before .before .before .before .before .before .before .before .before .before .before .before .before .before .before .pre .2))
+returns c = c .before .before .copy-part .ensures ∙ rw (c .before .before .before .slot-at .ensures .0, c .before .before .before .before .size .ensures .0, c .before .before .before .before .before .before .before .before .before .copy-to .ensures, c .before .before .before .before .before .before .before .before .before .before .before .before .before .before .before .hi .ensures, c .before .before .before .before .before .before .before .before .before .before .before .before .before .before .lo .ensures, c .before .before .before .before .before .before .before .before .before .before .before .before .before .hi2 .ensures, c .before .before .before .before .before .before .before .before .before .before .before .before .lo2 .ensures, c .before .before .before .before .before .before .before .before .before .before .before .before .before .before .before .before .before .before .packet-id .ensures, c .before .before .before .before .before .before .before .before .before .before .before .before .before .before .before .before .get16 .ensures, c .before .before .before .before .before .before .before .before .before .before .before .before .before .before .before .before .before .channel-at .ensures .0) (shows (c .before .before .before .before .before .before .before .before .before .before .before .before .before .before .before .before .before .before .before .before .before .args .s .now) (c .before .before .before .before .before .before .before .before .before .before .before .before .before .before .before .before .before .before .before .before .before .pre .0) (λ i. c .before .before .before .before .before .before .before .before .before .before .before .before .before .before .before .before .before .before .before .before .shared-slice-known .given i .fits) (c .before .before .before .before .before .before .before .before .before .before .before .before .before .before .before .before .before .before .before .before .before .pre .1) (c .before .before .before .before .before .before .before .before .before .before .before .before .before .before .before .before .before .before .before .before .before .args .out .now) (channel (c .before .before .before .before .before .before .before .before .before .before .before .before .before .before .before .before .before .before .before .before .before .args .side)) (c .before .before .before .before .before .before .before .before .before .before .before .before .before .before .before .before .before .before .before .before .before .pre .2))
 
 pub show-spec : {M : Type 1} → statement M
 show-spec =
     tie.close
     (tie.spec
     packet-id-requires
-    count-at-requires
+    channel-at-requires
     get16-requires
     add-sequence
     hi-requires
@@ -74,8 +71,7 @@ show-spec =
     copy-to-requires
     shared-slice-read-size
     size-requires
-    mul-copy-part
-    add-copy-part
+    slot-at-requires
     copy-part-requires
     same-length
     returns)

@@ -24,8 +24,8 @@ get16-requires-2 c κs = search needs
 seconds-requires-2 : tie.Need-seconds-requires-2
 seconds-requires-2 c κs = search needs
 
-count-at-requires : tie.Need-count-at-requires
-count-at-requires c κs = search needs
+channel-at-requires : tie.Need-channel-at-requires
+channel-at-requires c κs = search needs
 
 raise-requires : tie.Need-raise-requires
 raise-requires c κs = search needs
@@ -37,7 +37,7 @@ returns : tie.Need-returns
 unfolding handled reply view clockIn
 returns c =
     let h : be16 (c .before .before .before .before .before .before .before .before .before .before .before .before .before .args .f .now) 2 / 4 < be16 (c .before .before .before .before .before .before .before .before .before .before .before .before .before .args .s .now) 0 / 4 = rw (c .before .before .before .before .before .before .before .before .before .seconds .ensures .0, c .before .before .before .before .before .before .before .before .before .before .get16 .ensures, c .before .before .before .before .before .before .seconds2 .ensures .0, c .before .before .before .before .before .before .before .get162 .ensures) at (c .before .before .before .before .before .if1 .taken) in
-    rw (lt-ltb _ _ h, c .before .before .raise .ensures, c .before .before .before .count-at .ensures .0)
+    rw (lt-ltb _ _ h, c .before .before .raise .ensures, c .before .before .before .channel-at .ensures .0)
 
 hear-requires : tie.Need-hear-requires
 hear-requires c κs = search needs
@@ -62,7 +62,7 @@ frame-spec =
     seconds-requires
     get16-requires-2
     seconds-requires-2
-    count-at-requires
+    channel-at-requires
     raise-requires
     same-length
     returns

@@ -1,4 +1,4 @@
--- `command::outside` meets its contract: the bits in common with F18B are, one by one, those outside 0E74.
+-- `command::outside` meets its contract: the bits in common with those of no stream are, one by one, those outside the table's.
 -- Assumes nothing.
 use borrow.Author.Needs.{needs}
 use Rattle.paper.specs.Commands.{outside}

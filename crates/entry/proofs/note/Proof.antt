@@ -23,8 +23,11 @@ slice-read-t12 c = search needs
 slice-read-t14 : tie.Need-slice-read-t14
 slice-read-t14 c = search needs
 
-slice-read-t16 : tie.Need-slice-read-t16
-slice-read-t16 c = search needs
+add-t15 : tie.Need-add-t15
+add-t15 c = search needs
+
+slice-read-t17 : tie.Need-slice-read-t17
+slice-read-t17 c = search needs
 
 hi-requires : tie.Need-hi-requires
 hi-requires c κs = search needs
@@ -54,7 +57,8 @@ note-spec =
     low24-requires
     slice-read-t12
     slice-read-t14
-    slice-read-t16
+    add-t15
+    slice-read-t17
     hi-requires
     lo-requires
     slice-aggregate-copy-to

@@ -22,24 +22,18 @@ listed-requires c κs = search needs
 size16-requires : tie.Need-size16-requires
 size16-requires c κs = search needs
 
-size-requires : tie.Need-size-requires
-size-requires c κs = search needs
-
-mul-copy-part : tie.Need-mul-copy-part
-mul-copy-part c = search needs
-
-add-copy-part : tie.Need-add-copy-part
-add-copy-part c = search needs
+gather-at-requires : tie.Need-gather-at-requires
+gather-at-requires c κs = carried-rules (c .before .before .before .before .before .before .before .args .stream) (c .before .before .before .before .before .before .before .pre .1) .small
 
 copy-part-requires : tie.Need-copy-part-requires
-copy-part-requires c κs = (omega (arith, c .before .before .size16 .ensures .0, c .before .before .before .listed .ensures .1, c .before .before .before .before .before .before .before .before .pre .2), omega (arith, c .size .ensures .0, c .before .before .before .before .before .before .before .before .pre .0, carried-rules _ (c .before .before .before .before .before .before .before .before .pre .1) .small, c .before .before .size16 .ensures .0, c .before .before .before .listed .ensures .1))
+copy-part-requires c κs = (omega (arith, c .before .before .size16 .ensures .0, c .before .before .before .listed .ensures .1, c .before .before .before .before .before .before .before .before .pre .2), omega (arith, c .gather-at .ensures .1, c .before .before .before .before .before .before .before .before .pre .0, c .before .before .size16 .ensures .0, c .before .before .before .listed .ensures .1))
 
 same-length : tie.Need-same-length
 same-length c = search needs
 
 returns-2 : tie.Need-returns-2
 unfolding handsTo
-returns-2 c = rw (sym (c .before .before .before .before .before .before .before .before .sound .ensures) ∙ not-false (c .before .before .before .before .before .before .before .before .sound .result) (c .before .before .before .before .before .before .before .if1 .left), c .before .before .copy-part .ensures, c .before .before .before .before .before .size16 .ensures .0, c .before .before .before .before .before .before .listed .ensures .0, c .before .before .before .size .ensures .0)
+returns-2 c = rw (sym (c .before .before .before .before .before .before .before .before .sound .ensures) ∙ not-false (c .before .before .before .before .before .before .before .before .sound .result) (c .before .before .before .before .before .before .before .if1 .left), c .before .before .copy-part .ensures, c .before .before .before .before .before .size16 .ensures .0, c .before .before .before .before .before .before .listed .ensures .0, c .before .before .before .gather-at .ensures .0)
 
 pub hand-out-spec : {M : Type 1} → statement M
 hand-out-spec =
@@ -49,9 +43,7 @@ hand-out-spec =
     returns
     listed-requires
     size16-requires
-    size-requires
-    mul-copy-part
-    add-copy-part
+    gather-at-requires
     copy-part-requires
     same-length
     returns-2)

@@ -8,6 +8,9 @@ use borrow.Author.Needs.{needs}
 use Rattle.gather.proofs.keep.Statement.{statement}
 use Rattle.gather.proofs.keep.Tie as tie
 
+gather-at-requires : tie.Need-gather-at-requires
+gather-at-requires c κs = search needs
+
 size-requires : tie.Need-size-requires
 size-requires c κs = search needs
 
@@ -17,15 +20,6 @@ mul-copy-part c = search needs
 add-copy-part : tie.Need-add-copy-part
 add-copy-part c = search needs
 
-size-requires-2 : tie.Need-size-requires-2
-size-requires-2 c κs = search needs
-
-mul-copy-part-2 : tie.Need-mul-copy-part-2
-mul-copy-part-2 c = search needs
-
-add-copy-part-2 : tie.Need-add-copy-part-2
-add-copy-part-2 c = search needs
-
 copy-part-requires : tie.Need-copy-part-requires
 copy-part-requires c κs = search needs
 
@@ -33,18 +27,16 @@ same-length : tie.Need-same-length
 same-length c = search needs
 
 returns : tie.Need-returns
-returns c = c .before .before .copy-part .ensures ∙ rw (c .before .before .before .before .size .ensures .0, c .before .before .before .size2 .ensures .0, take-all 118 (drop 8 (c .before .before .before .before .before .before .before .before .args .f .now)) (omega (arith, length-drop 8 (c .before .before .before .before .before .before .before .before .args .f .now), c .before .before .before .before .before .before .before .before .pre .3)))
+returns c = c .before .before .copy-part .ensures ∙ rw (c .before .before .before .before .before .gather-at .ensures .0, c .before .before .before .size .ensures .0, take-all 118 (drop 8 (c .before .before .before .before .before .before .before .before .args .f .now)) (omega (arith, length-drop 8 (c .before .before .before .before .before .before .before .before .args .f .now), c .before .before .before .before .before .before .before .before .pre .3)))
 
 pub keep-spec : {M : Type 1} → statement M
 keep-spec =
     tie.close
     (tie.spec
+    gather-at-requires
     size-requires
     mul-copy-part
     add-copy-part
-    size-requires-2
-    mul-copy-part-2
-    add-copy-part-2
     copy-part-requires
     same-length
     returns)

@@ -5,14 +5,11 @@ use borrow.Author.Needs.{needs}
 use Rattle.gather.proofs.note.Statement.{statement}
 use Rattle.gather.proofs.note.Tie as tie
 
-size-requires : tie.Need-size-requires
-size-requires c κs = search needs
+record-at-requires : tie.Need-record-at-requires
+record-at-requires c κs = search needs
 
-mul-at : tie.Need-mul-at
-mul-at c = search needs
-
-cast-mark : tie.Need-cast-mark
-cast-mark c = search needs
+cast-runs : tie.Need-cast-runs
+cast-runs c = search needs
 
 hi-requires : tie.Need-hi-requires
 hi-requires c κs = search needs
@@ -31,15 +28,14 @@ same-length c = search needs
 
 returns : tie.Need-returns
 unfolding recordedOn
-returns c = rw (c .before .before .copy-to .ensures, c .before .before .before .before .before .before .hi .ensures, c .before .before .before .before .before .lo .ensures, c .before .before .before .before .before .before .before .before .size .ensures .0)
+returns c = rw (c .before .before .copy-to .ensures, c .before .before .before .before .before .before .hi .ensures, c .before .before .before .before .before .lo .ensures, c .before .before .before .before .before .before .before .before .record-at .ensures .0)
 
 pub note-spec : {M : Type 1} → statement M
 note-spec =
     tie.close
     (tie.spec
-    size-requires
-    mul-at
-    cast-mark
+    record-at-requires
+    cast-runs
     hi-requires
     lo-requires
     slice-aggregate-copy-to

@@ -13,14 +13,8 @@ use borrow.Author.Needs.{needs}
 use Rattle.gather.proofs.sound.Statement.{statement}
 use Rattle.gather.proofs.sound.Tie as tie
 
-size-requires : tie.Need-size-requires
-size-requires c κs = search needs
-
-mul-at : tie.Need-mul-at
-mul-at c = search needs
-
-add-at : tie.Need-add-at
-add-at c = search needs
+gather-at-requires : tie.Need-gather-at-requires
+gather-at-requires c κs = carried-rules (c .before .args .stream) (c .before .pre .1) .small
 
 listed-requires : tie.Need-listed-requires
 listed-requires c κs = search needs
@@ -32,7 +26,7 @@ add-end : tie.Need-add-end
 add-end c = search needs
 
 shared-slice-read-marks : tie.Need-shared-slice-read-marks
-shared-slice-read-marks c = omega (arith, c .before .before .before .size .ensures .0, c .before .before .before .before .before .pre .0, carried-rules _ (c .before .before .before .before .before .pre .1) .small)
+shared-slice-read-marks c = omega (arith, c .before .before .before .gather-at .ensures .1, c .before .before .before .before .before .pre .0)
 
 array-read-marks : tie.Need-array-read-marks
 array-read-marks c = search needs
@@ -41,7 +35,7 @@ add-marks : tie.Need-add-marks
 add-marks c = search needs
 
 shared-slice-read-marks-2 : tie.Need-shared-slice-read-marks-2
-shared-slice-read-marks-2 c = omega (arith, c .before .before .before .before .size .ensures .0, c .before .before .before .before .before .before .pre .0, carried-rules _ (c .before .before .before .before .before .before .pre .1) .small)
+shared-slice-read-marks-2 c = omega (arith, c .before .before .before .before .gather-at .ensures .1, c .before .before .before .before .before .before .pre .0)
 
 array-read-marks-2 : tie.Need-array-read-marks-2
 array-read-marks-2 c = search needs
@@ -50,7 +44,7 @@ sub-marks : tie.Need-sub-marks
 sub-marks c = search needs
 
 shared-slice-read-marks-3 : tie.Need-shared-slice-read-marks-3
-shared-slice-read-marks-3 c = omega (arith, c .before .before .before .before .before .size .ensures .0, c .before .before .before .before .before .before .before .pre .0, carried-rules _ (c .before .before .before .before .before .before .before .pre .1) .small, c .before .before .before .size16 .ensures .0, c .before .before .before .before .listed .ensures .1)
+shared-slice-read-marks-3 c = omega (arith, c .before .before .before .before .before .gather-at .ensures .1, c .before .before .before .before .before .before .before .pre .0, c .before .before .before .size16 .ensures .0, c .before .before .before .before .listed .ensures .1)
 
 array-read-marks-3 : tie.Need-array-read-marks-3
 array-read-marks-3 c = search needs
@@ -59,14 +53,14 @@ sub-marks-2 : tie.Need-sub-marks-2
 sub-marks-2 c = search needs
 
 shared-slice-read-marks-4 : tie.Need-shared-slice-read-marks-4
-shared-slice-read-marks-4 c = omega (arith, c .before .before .before .before .before .before .size .ensures .0, c .before .before .before .before .before .before .before .before .pre .0, carried-rules _ (c .before .before .before .before .before .before .before .before .pre .1) .small, c .before .before .before .before .size16 .ensures .0, c .before .before .before .before .before .listed .ensures .1)
+shared-slice-read-marks-4 c = omega (arith, c .before .before .before .before .before .before .gather-at .ensures .1, c .before .before .before .before .before .before .before .before .pre .0, c .before .before .before .before .size16 .ensures .0, c .before .before .before .before .before .listed .ensures .1)
 
 array-read-marks-4 : tie.Need-array-read-marks-4
 array-read-marks-4 c = search needs
 
 returns : tie.Need-returns
 returns c =
-    let m : marked (c .before .before .before .before .before .before .before .before .before .args .s .now) (gatherAt (c .before .before .before .before .before .before .before .before .before .args .stream)) (listed (c .before .before .before .before .before .before .before .before .before .args .stream)) ≡ false = rw (c .before .before .before .before .before .size16 .ensures .0, c .before .before .before .before .before .before .listed .ensures .0, c .before .before .before .before .before .before .before .size .ensures .0) at (not-true (marked (c .before .before .before .before .before .before .before .before .before .args .s .now) (48 + 826 * c .before .before .before .before .before .before .before .size .result) (c .before .before .before .before .before .size16 .result)) (c .if1 .taken)) in
+    let m : marked (c .before .before .before .before .before .before .before .before .before .args .s .now) (gatherAt (c .before .before .before .before .before .before .before .before .before .args .stream)) (listed (c .before .before .before .before .before .before .before .before .before .args .stream)) ≡ false = rw (c .before .before .before .before .before .size16 .ensures .0, c .before .before .before .before .before .before .listed .ensures .0, c .before .before .before .before .before .before .before .gather-at .ensures .0) at (not-true (marked (c .before .before .before .before .before .before .before .before .before .args .s .now) (c .before .before .before .before .before .before .before .gather-at .result) (c .before .before .before .before .before .size16 .result)) (c .if1 .taken)) in
     rw (sound-bytes (c .before .before .before .before .before .before .before .before .before .args .s .now) (c .before .before .before .before .before .before .before .before .before .args .stream) (c .before .before .before .before .before .before .before .before .before .pre .1), m)
 
 pieces-requires : tie.Need-pieces-requires
@@ -79,20 +73,18 @@ add-filled : tie.Need-add-filled
 add-filled c = search needs
 
 filled-requires : tie.Need-filled-requires
-filled-requires c κs = (omega (arith, c .before .before .before .before .before .before .before .before .size .ensures .0, c .before .before .before .before .before .before .size16 .ensures .0, c .before .before .before .before .before .before .before .listed .ensures .0, c .pieces .ensures .0, carried-rules (c .before .before .before .before .before .before .before .before .before .before .args .stream) (c .before .before .before .before .before .before .before .before .before .before .pre .1) .fits), omega (arith, c .before .before .before .before .before .before .before .before .size .ensures .0, c .before .before .before .before .before .before .before .before .before .before .pre .0, carried-rules _ (c .before .before .before .before .before .before .before .before .before .before .pre .1) .small, c .pieces .ensures .1))
+filled-requires c κs = (omega (arith, c .before .before .before .before .before .before .size16 .ensures .0, c .before .before .before .before .before .before .before .listed .ensures .0, c .pieces .ensures .0, carried-rules (c .before .before .before .before .before .before .before .before .before .before .args .stream) (c .before .before .before .before .before .before .before .before .before .before .pre .1) .fits), omega (arith, c .before .before .before .before .before .before .before .before .gather-at .ensures .1, c .before .before .before .before .before .before .before .before .before .before .pre .0, c .pieces .ensures .1))
 
 returns-2 : tie.Need-returns-2
 returns-2 c =
-    let m : marked (c .before .before .before .before .before .before .before .before .before .before .before .args .s .now) (gatherAt (c .before .before .before .before .before .before .before .before .before .before .before .args .stream)) (listed (c .before .before .before .before .before .before .before .before .before .before .before .args .stream)) ≡ true = rw (c .before .before .before .before .before .before .before .size16 .ensures .0, c .before .before .before .before .before .before .before .before .listed .ensures .0, c .before .before .before .before .before .before .before .before .before .size .ensures .0) at (not-false (marked (c .before .before .before .before .before .before .before .before .before .before .before .args .s .now) (48 + 826 * c .before .before .before .before .before .before .before .before .before .size .result) (c .before .before .before .before .before .before .before .size16 .result)) (c .before .before .if1 .left)) in
-    rw (sound-bytes (c .before .before .before .before .before .before .before .before .before .before .before .args .s .now) (c .before .before .before .before .before .before .before .before .before .before .before .args .stream) (c .before .before .before .before .before .before .before .before .before .before .before .pre .1), m, c .filled .ensures, c .before .before .before .before .before .before .before .size16 .ensures .0, c .before .before .before .before .before .before .before .before .listed .ensures .0, c .before .before .before .before .before .before .before .before .before .size .ensures .0, c .before .pieces .ensures .0)
+    let m : marked (c .before .before .before .before .before .before .before .before .before .before .before .args .s .now) (gatherAt (c .before .before .before .before .before .before .before .before .before .before .before .args .stream)) (listed (c .before .before .before .before .before .before .before .before .before .before .before .args .stream)) ≡ true = rw (c .before .before .before .before .before .before .before .size16 .ensures .0, c .before .before .before .before .before .before .before .before .listed .ensures .0, c .before .before .before .before .before .before .before .before .before .gather-at .ensures .0) at (not-false (marked (c .before .before .before .before .before .before .before .before .before .before .before .args .s .now) (c .before .before .before .before .before .before .before .before .before .gather-at .result) (c .before .before .before .before .before .before .before .size16 .result)) (c .before .before .if1 .left)) in
+    rw (sound-bytes (c .before .before .before .before .before .before .before .before .before .before .before .args .s .now) (c .before .before .before .before .before .before .before .before .before .before .before .args .stream) (c .before .before .before .before .before .before .before .before .before .before .before .pre .1), m, c .filled .ensures, c .before .before .before .before .before .before .before .size16 .ensures .0, c .before .before .before .before .before .before .before .before .listed .ensures .0, c .before .before .before .before .before .before .before .before .before .gather-at .ensures .0, c .before .pieces .ensures .0)
 
 pub sound-spec : {M : Type 1} → statement M
 sound-spec =
     tie.close
     (tie.spec
-    size-requires
-    mul-at
-    add-at
+    gather-at-requires
     listed-requires
     size16-requires
     add-end

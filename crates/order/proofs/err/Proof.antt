@@ -9,8 +9,8 @@ use Rattle.order.proofs.err.Tie as tie
 slice-read-errors : tie.Need-slice-read-errors
 slice-read-errors c = search needs
 
-count-at-requires : tie.Need-count-at-requires
-count-at-requires c κs = search needs
+channel-at-requires : tie.Need-channel-at-requires
+channel-at-requires c κs = search needs
 
 raise-requires : tie.Need-raise-requires
 raise-requires c κs = search needs
@@ -29,14 +29,14 @@ same-length c = search needs
 
 returns : tie.Need-returns
 unfolding erredOn
-returns c = c .before .before .copy-to .ensures ∙ rw (c .before .before .before .before .before .before .before .before .raise .ensures, c .before .before .before .before .before .before .before .before .before .count-at .ensures .0, c .before .before .before .before .before .wrapping-add-u8 .ensures)
+returns c = c .before .before .copy-to .ensures ∙ rw (c .before .before .before .before .before .before .before .before .raise .ensures, c .before .before .before .before .before .before .before .before .before .channel-at .ensures .0, c .before .before .before .before .before .wrapping-add-u8 .ensures)
 
 pub err-spec : {M : Type 1} → statement M
 err-spec =
     tie.close
     (tie.spec
     slice-read-errors
-    count-at-requires
+    channel-at-requires
     raise-requires
     wrapping-add-u8-requires
     slice-aggregate-copy-to

@@ -6,19 +6,22 @@ use native.Mathlib.Omega.{arith}
 use borrow.Author.Tests.{ltb-false}
 use lib.Dec.{ltb}
 use Rattle.paper.specs.Frames.{Channel}
-use Rattle.paper.specs.Step.{queues}
+use Rattle.paper.specs.Step.{crowded, queues}
 use Rattle.frames.specs.Meaning.{channel}
 use Rattle.command.specs.Meaning.{asked, meant}
 use Rattle.machine.specs.Obeyed.{notedOn, erredOn, performedOn}
 use Rattle.machine.proofs.Counts.{noted-fit}
-use Rattle.order.proofs.Judged.{refuses, crowds, takes, none-free, noted-waits}
+use Rattle.order.proofs.Judged.{refuses, crowds, takes, noted-waits}
 use mathlib.Core.Path.{_≡_, sym, ap, _∙_}
 use Prim.Native.Nat.{ℕ, _-_, _<_}
 use lib.ListN.{getD, drop}
 use Rattle.wire.specs.Wire.{be16}
 use Rattle.paper.specs.Commands as Commands
 use Rattle.command.specs.Meaning.{meant}
-use Rattle.order.proofs.Judged.{refuses, crowds, takes, none-free}
+use Rattle.order.proofs.Judged.{refuses, crowds, takes}
+use Rattle.paper.specs.Streams.{hk}
+use Rattle.state.specs.View.{view}
+use Rattle.machine.proofs.Sent.{free-room}
 use borrow.Author.Needs.{needs}
 use Rattle.order.proofs.frame.Statement.{statement}
 use Rattle.order.proofs.frame.Tie as tie
@@ -54,8 +57,8 @@ returns c =
 queues-packet-requires : tie.Need-queues-packet-requires
 queues-packet-requires c κs = search needs
 
-slice-read-if1 : tie.Need-slice-read-if1
-slice-read-if1 c = search needs
+crowded-requires : tie.Need-crowded-requires
+crowded-requires c κs = search needs
 
 err-requires-2 : tie.Need-err-requires-2
 err-requires-2 c κs = search needs
@@ -65,13 +68,13 @@ same-length-2 c = search needs
 
 returns-2 : tie.Need-returns-2
 returns-2 c =
-    let s = c .before .before .before .before .before .before .before .before .before .before .before .before .before .args .s .now in
-    let f = c .before .before .before .before .before .before .before .before .before .before .before .before .before .args .f .now in
-    let side = channel (c .before .before .before .before .before .before .before .before .before .before .before .before .before .args .side) in
-    let q = asked (c .before .before .before .before .before .before .before .before .decoded .given .0 .0) in
-    let said : meant (c .before .before .before .before .before .before .before .before .before .before .decode .result) ≡ Commands.request q = ap meant (c .before .before .before .before .before .before .before .before .decoded .given .1) in
-    let t : (queues (Commands.request q) && ltb (48 - getD s 46 0) 1) ≡ true = sym (none-free (queues (Commands.request q)) (getD s 46 0)) ∙ (rw (c .before .before .before .before .before .before .queues-packet .ensures) at (c .before .before .before .before .if1 .taken)) in
-    rw (c .before .before .err2 .ensures) (crowds s side (be16 f 2) (be16 f 4) (drop 6 f) (performedOn (notedOn s side (be16 f 2) (be16 f 4)) (Commands.decoded (be16 f 2) (drop 6 f))) (λ m. erredOn s side m) q (sym (c .before .before .before .before .before .before .before .before .before .before .decode .ensures .0) ∙ said) t)
+    let s = c .before .before .before .before .before .before .before .before .before .before .before .before .before .before .args .s .now in
+    let f = c .before .before .before .before .before .before .before .before .before .before .before .before .before .before .args .f .now in
+    let side = channel (c .before .before .before .before .before .before .before .before .before .before .before .before .before .before .args .side) in
+    let q = asked (c .before .before .before .before .before .before .before .before .before .decoded .given .0 .0) in
+    let said : meant (c .before .before .before .before .before .before .before .before .before .before .before .decode .result) ≡ Commands.request q = ap meant (c .before .before .before .before .before .before .before .before .before .decoded .given .1) in
+    let t : (queues (Commands.request q) && crowded (view s) hk) ≡ true = rw (c .before .before .before .before .before .before .before .queues-packet .ensures, c .before .before .before .before .before .crowded .ensures) at (c .before .before .before .before .if1 .taken) in
+    rw (c .before .before .err2 .ensures) (crowds s side (be16 f 2) (be16 f 4) (drop 6 f) (performedOn (notedOn s side (be16 f 2) (be16 f 4)) (Commands.decoded (be16 f 2) (drop 6 f))) (λ m. erredOn s side m) q (sym (c .before .before .before .before .before .before .before .before .before .before .before .decode .ensures .0) ∙ said) t)
 
 get16-requires : tie.Need-get16-requires
 get16-requires c κs = search needs
@@ -84,11 +87,11 @@ note-requires c κs = search needs
 
 obey-requires : tie.Need-obey-requires
 obey-requires c κs =
-    let s = c .before .before .before .before .before .before .before .before .before .before .before .before .before .before .before .before .args .s .now in
-    let q = asked (c .before .before .before .before .before .before .before .before .before .before .before .decoded .given .0 .0) in
-    let said : meant (c .before .before .before .before .before .before .before .before .before .before .before .before .before .decode .result) ≡ Commands.request q = ap meant (c .before .before .before .before .before .before .before .before .before .before .before .decoded .given .1) in
-    let free : (queues (Commands.request q) && ltb 47 (getD s 46 0)) ≡ false = rw (c .before .before .before .before .before .before .before .before .before .queues-packet .ensures) at (c .before .before .before .before .before .before .before .if1 .left) in
-    rw (c .before .before .before .note .ensures) ((noted-fit s (c .before .before .before .before .before .before .before .before .before .before .before .before .before .before .before .before .pre .0) _ _ _, λ t. omega (arith, noted-waits s (c .before .before .before .before .before .before .before .before .before .before .before .before .before .before .before .before .pre .0) (channel (c .before .before .before .before .before .before .before .before .before .before .before .before .before .before .before .before .args .side)) (c .before .before .before .before .before .get16 .result) (c .before .before .before .before .get162 .result), ltb-false 47 (getD s 46 0) (rw t at free))), λ v e. c .before .before .before .before .before .before .before .before .before .before .before .before .before .decode .ensures .1 v (said ∙ ap Commands.request e))
+    let s = c .before .before .before .before .before .before .before .before .before .before .before .before .before .before .before .before .before .args .s .now in
+    let q = asked (c .before .before .before .before .before .before .before .before .before .before .before .before .decoded .given .0 .0) in
+    let said : meant (c .before .before .before .before .before .before .before .before .before .before .before .before .before .before .decode .result) ≡ Commands.request q = ap meant (c .before .before .before .before .before .before .before .before .before .before .before .before .decoded .given .1) in
+    let free : (queues (Commands.request q) && crowded (view s) hk) ≡ false = rw (c .before .before .before .before .before .before .before .before .before .before .queues-packet .ensures, c .before .before .before .before .before .before .before .before .crowded .ensures) at (c .before .before .before .before .before .before .before .if1 .left) in
+    rw (c .before .before .before .note .ensures) ((noted-fit s (c .before .before .before .before .before .before .before .before .before .before .before .before .before .before .before .before .before .pre .0) _ _ _, λ t. omega (arith, noted-waits s (c .before .before .before .before .before .before .before .before .before .before .before .before .before .before .before .before .before .pre .0) (channel (c .before .before .before .before .before .before .before .before .before .before .before .before .before .before .before .before .before .args .side)) (c .before .before .before .before .before .get16 .result) (c .before .before .before .before .get162 .result), free-room s hk (c .before .before .before .before .before .before .before .before .before .before .before .before .before .before .before .before .before .pre .0) (rw t at free))), λ v e. c .before .before .before .before .before .before .before .before .before .before .before .before .before .before .decode .ensures .1 v (said ∙ ap Commands.request e))
 
 same-length-3 : tie.Need-same-length-3
 same-length-3 c = search needs
@@ -96,13 +99,13 @@ same-length-3 c = search needs
 returns-3 : tie.Need-returns-3
 unfolding performedOn
 returns-3 c =
-    let s = c .before .before .before .before .before .before .before .before .before .before .before .before .before .before .before .before .before .before .before .args .s .now in
-    let f = c .before .before .before .before .before .before .before .before .before .before .before .before .before .before .before .before .before .before .before .args .f .now in
-    let side = channel (c .before .before .before .before .before .before .before .before .before .before .before .before .before .before .before .before .before .before .before .args .side) in
-    let q = asked (c .before .before .before .before .before .before .before .before .before .before .before .before .before .before .decoded .given .0 .0) in
-    let said : meant (c .before .before .before .before .before .before .before .before .before .before .before .before .before .before .before .before .decode .result) ≡ Commands.request q = ap meant (c .before .before .before .before .before .before .before .before .before .before .before .before .before .before .decoded .given .1) in
-    let e : Commands.decoded (be16 f 2) (drop 6 f) ≡ Commands.request q = sym (c .before .before .before .before .before .before .before .before .before .before .before .before .before .before .before .before .decode .ensures .0) ∙ said in
-    let t : (queues (Commands.request q) && ltb (48 - getD s 46 0) 1) ≡ false = sym (none-free (queues (Commands.request q)) (getD s 46 0)) ∙ (rw (c .before .before .before .before .before .before .before .before .before .before .before .before .queues-packet .ensures) at (c .before .before .before .before .before .before .before .before .before .before .if1 .left)) in
+    let s = c .before .before .before .before .before .before .before .before .before .before .before .before .before .before .before .before .before .before .before .before .args .s .now in
+    let f = c .before .before .before .before .before .before .before .before .before .before .before .before .before .before .before .before .before .before .before .before .args .f .now in
+    let side = channel (c .before .before .before .before .before .before .before .before .before .before .before .before .before .before .before .before .before .before .before .before .args .side) in
+    let q = asked (c .before .before .before .before .before .before .before .before .before .before .before .before .before .before .before .decoded .given .0 .0) in
+    let said : meant (c .before .before .before .before .before .before .before .before .before .before .before .before .before .before .before .before .before .decode .result) ≡ Commands.request q = ap meant (c .before .before .before .before .before .before .before .before .before .before .before .before .before .before .before .decoded .given .1) in
+    let e : Commands.decoded (be16 f 2) (drop 6 f) ≡ Commands.request q = sym (c .before .before .before .before .before .before .before .before .before .before .before .before .before .before .before .before .before .decode .ensures .0) ∙ said in
+    let t : (queues (Commands.request q) && crowded (view s) hk) ≡ false = rw (c .before .before .before .before .before .before .before .before .before .before .before .before .before .queues-packet .ensures, c .before .before .before .before .before .before .before .before .before .before .before .crowded .ensures) at (c .before .before .before .before .before .before .before .before .before .before .if1 .left) in
     let act : c .before .before .obey .last .0 ≡ performedOn (notedOn s side (be16 f 2) (be16 f 4)) (Commands.decoded (be16 f 2) (drop 6 f)) = c .before .before .obey .ensures ∙ rw (c .before .before .before .before .before .before .note .ensures, c .before .before .before .before .before .before .before .before .get16 .ensures, c .before .before .before .before .before .before .before .get162 .ensures, e) in
     rw act (takes s side (be16 f 2) (be16 f 4) (drop 6 f) (performedOn (notedOn s side (be16 f 2) (be16 f 4)) (Commands.decoded (be16 f 2) (drop 6 f))) (λ m. erredOn s side m) q e t)
 
@@ -118,7 +121,7 @@ frame-spec =
     same-length
     returns
     queues-packet-requires
-    slice-read-if1
+    crowded-requires
     err-requires-2
     same-length-2
     returns-2

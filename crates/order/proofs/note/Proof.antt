@@ -6,8 +6,8 @@ use borrow.Author.Needs.{needs}
 use Rattle.order.proofs.note.Statement.{statement}
 use Rattle.order.proofs.note.Tie as tie
 
-count-at-requires : tie.Need-count-at-requires
-count-at-requires c κs = search needs
+channel-at-requires : tie.Need-channel-at-requires
+channel-at-requires c κs = search needs
 
 raise-requires : tie.Need-raise-requires
 raise-requires c κs = search needs
@@ -32,13 +32,13 @@ same-length c = search needs
 
 returns : tie.Need-returns
 unfolding notedOn
-returns c = c .before .before .copy-to .ensures ∙ rw (c .before .before .before .before .before .before .before .before .before .raise2 .ensures, c .before .before .before .before .before .before .before .before .before .before .before .before .before .raise .ensures, c .before .before .before .before .before .before .before .before .before .before .before .before .before .before .count-at .ensures .0, c .before .before .before .before .before .before .lo .ensures, c .before .before .before .before .before .lo2 .ensures)
+returns c = c .before .before .copy-to .ensures ∙ rw (c .before .before .before .before .before .before .before .before .before .raise2 .ensures, c .before .before .before .before .before .before .before .before .before .before .before .before .before .raise .ensures, c .before .before .before .before .before .before .before .before .before .before .before .before .before .before .channel-at .ensures .0, c .before .before .before .before .before .before .lo .ensures, c .before .before .before .before .before .lo2 .ensures)
 
 pub note-spec : {M : Type 1} → statement M
 note-spec =
     tie.close
     (tie.spec
-    count-at-requires
+    channel-at-requires
     raise-requires
     raise-requires-2
     lo-requires
