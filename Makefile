@@ -14,10 +14,10 @@ PLACE = $(DESTDIR)$(PREFIX)
 .PHONY: all demo test host soak measure install
 
 all:
-	@host/build
+	@host/scripts/build
 
 demo:
-	@host/demo
+	@host/demo/run
 
 test:
 	.ci/run
@@ -26,11 +26,11 @@ host:
 	host/run
 
 soak: $(LIBRARY)
-	@host/tools make cc run
+	@host/scripts/tools make cc run
 	$(MAKE) -C host soak ROUNDS=$(ROUNDS)
 
 measure:
-	host/measure
+	host/measure/run
 
 $(LIBRARY):
 	rt staticlib ssp

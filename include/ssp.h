@@ -13,7 +13,7 @@
  *     calls on one state at a time are not allowed.
  *
  * Numbers of more than one byte in frames, outputs and packets are big-endian.
- * Every number here is held to the library by host/header.c.
+ * Every number here is held to the library by host/tests/header.c.
  */
 #ifndef SSP_H
 #define SSP_H

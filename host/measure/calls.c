@@ -11,7 +11,7 @@
 #include <stdlib.h>
 #include <string.h>
 
-#include "../include/ssp.h"
+#include "ssp.h"
 #include "frames.h"
 #include "model.h"
 

@@ -11,7 +11,7 @@
 #include <string.h>
 #include <time.h>
 
-#include "../include/ssp.h"
+#include "ssp.h"
 #include "frames.h"
 #include "guard.h"
 #include "ledger.h"

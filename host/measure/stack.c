@@ -6,7 +6,7 @@
 #include <string.h>
 #include <ucontext.h>
 
-#include "../include/ssp.h"
+#include "ssp.h"
 #include "frames.h"
 
 enum { ROOM = 65536, PAINT = 0xC5 };

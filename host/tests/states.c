@@ -8,7 +8,7 @@
 #include <stdio.h>
 #include <string.h>
 
-#include "../include/ssp.h"
+#include "ssp.h"
 #include "cover.h"
 #include "frames.h"
 #include "guard.h"

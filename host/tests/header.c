@@ -9,7 +9,7 @@
 #include <stdio.h>
 #include <string.h>
 
-#include "../include/ssp.h"
+#include "ssp.h"
 #include "frames.h"
 
 enum { ROOM = 32768, NAMES = 200 }; /* document 01: at most 32,768 bytes */

@@ -2,7 +2,8 @@
 # in what bench printed: an accepted poll's answer is 00 and 126 bytes, and no other answer is as long.
 # shellcheck shell=bash disable=SC2034
 built=target/host
-if [ "$(uname -m)" = x86_64 ]; then runner=; else runner=qemu-x86_64; fi
+# bench and reader are linked dynamically: elsewhere their loader is that of the C library which `tools` installs with the compiler.
+if [ "$(uname -m)" = x86_64 ]; then runner=; else runner=qemu-x86_64; export QEMU_LD_PREFIX=/usr/x86_64-linux-gnu; fi
 
 polled() { sed -n 's/^00\(.\{252\}\)$/\1/p' "$@"; }
 
