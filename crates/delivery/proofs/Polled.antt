@@ -3,7 +3,7 @@
 -- Assumes nothing.
 use mathlib.Core.Path.{_≡_, refl, sym, ap, ap₂, _∙_, subst}
 use mathlib.Core.Logic.{_⊎_, inl, inr}
-use mathlib.Core.Bool.{Bool, true, false, cond, _&&_}
+use mathlib.Core.Bool.{Bool, true, false, cond, _&&_, false≢true}
 use mathlib.Core.List.{List, [], _∷_, _++_, map, append-assoc, append-nil}
 use Prim.Native.Nat.{ℕ, suc, _+_, _%_, _≤_, _<_}
 use native.Mathlib.Omega.{arith}
@@ -18,12 +18,12 @@ use Rattle.paper.specs.Packets.{cut}
 use Rattle.paper.specs.Queue.{Piece, piece, wrap, numbered, after, put, without}
 use Rattle.paper.specs.Controller.{Controller, start}
 use Rattle.paper.specs.Acts.{accepted, answer, shownFrom}
-use Rattle.paper.specs.Step.{holds, reply, nothingWaits, refused, Outcome, outcome, replied, step}
+use Rattle.paper.specs.Step.{holds, reply, refused, Outcome, outcome, replied, step}
 use Rattle.paper.specs.Reader.{packet, packetOf}
 use Rattle.paper.specs.Runs.{Call, replies}
-use Rattle.paper.specs.History.{isAccepted, sentAt, sentBy, countsAfter, numberedAll, spares, stillWaiting, sparedAt, stillWaitingAt}
+use Rattle.paper.specs.History.{isAccepted, sentAt, sentBy, countsAfter, numberedAll, Takes, nothing, theFirst, named, clears, takes, leaves, stillWaiting, sparedAt, stillWaitingAt}
 use Rattle.delivery.specs.Demands.{Polled, Numbers, isPoll, piecesQueued, none-queued, numbersAfter, takenAt, written, polledFrom, polled, pollOutputs, Numbered, polledOf}
-use Rattle.paper.proofs.Refusals.{reply-is, passed}
+use Rattle.paper.proofs.Refusals.{Clear, reply-is, passed}
 use Rattle.paper.proofs.History.{queues-step}
 use Rattle.delivery.proofs.Whole.{polled-parse}
 use Rattle.delivery.proofs.Sizes.{Sizes, sizes-start, sizes-step}
@@ -84,22 +84,11 @@ without-wire f (p ∷ ps) = at (f (p .stream)) (without-wire f ps)
     at true h = h
     at false h = ap (λ l. wire p ∷ l) h
 
-spares-wire : (d : Decoded) (q : List (Piece (List ℕ))) → spares d (map wire q) ≡ map wire (spares d q)
-spares-wire (request (clear mask)) q = without-wire (names mask) q
-spares-wire (request housekeeping) q = refl
-spares-wire (request (setMode value)) q = refl
-spares-wire (refusal n) q = refl
-
-waiting-wire : (f : Frame) (q : List (Piece (List ℕ))) → stillWaiting f (map wire q) ≡ map wire (stillWaiting f q)
-waiting-wire (broadcast cc time altitude spin phase) q = refl
-waiting-wire (command cc id sequence parameters) q = spares-wire (decoded id parameters) q
-waiting-wire (tick r) q = refl
-waiting-wire (sample s x) q = refl
-waiting-wire (poll cc) [] = refl
-waiting-wire (poll cc) (p ∷ q) = refl
-waiting-wire (status cc low flags) q = refl
-waiting-wire (analogue bytes) q = refl
-waiting-wire faulty q = refl
+leaves-wire : (t : Takes) (q : List (Piece (List ℕ))) → leaves t (map wire q) ≡ map wire (leaves t q)
+leaves-wire nothing q = refl
+leaves-wire theFirst [] = refl
+leaves-wire theFirst (p ∷ q) = refl
+leaves-wire (named mask) q = without-wire (names mask) q
 
 -- a controller, and the numbers beside it
 pub record Beside (c : Controller) (w : Numbers) : Type 0 where
@@ -121,7 +110,7 @@ beside-step c w x k =
     at : (b : Bool)
         → cond b (stillWaiting (frameOf (x .bytes)) (c .queue)) (c .queue)
         ≡ map wire (cond b (stillWaiting (frameOf (x .bytes)) (w .waiting)) (w .waiting))
-    at true = ap (stillWaiting (frameOf (x .bytes))) (k .queue) ∙ waiting-wire (frameOf (x .bytes)) (w .waiting)
+    at true = ap (stillWaiting (frameOf (x .bytes))) (k .queue) ∙ leaves-wire (takes (frameOf (x .bytes))) (w .waiting)
     at false = k .queue
 
 -- ---- of one stream: rising numbers, each with the body that was queued under it
@@ -318,7 +307,7 @@ module _ (s : ℕ) (c : Controller) (w : Numbers) (k : Beside c w) (g : Readies 
   keeps : (out : List ℕ) → Effect s (w .waiting) [] (w .waiting) out
   keeps out = inl (refl, (λ H lo f. f), λ T ps u. u)
 
-  orders : (d : Decoded) (out : List ℕ) → Effect s (w .waiting) [] (spares d (w .waiting)) out
+  orders : (d : Decoded) (out : List ℕ) → Effect s (w .waiting) [] (leaves (clears d) (w .waiting)) out
   orders (request (clear mask)) out =
       inl (refl, (λ H lo f. rising-without s (names mask) H lo (w .waiting) f), λ T ps u. sub-without (names mask) (w .waiting) T ps u)
   orders (request housekeeping) out = keeps out
@@ -457,23 +446,34 @@ module _ (sent : List (ℕ × List ℕ)) where
 pub polled-numbered : (calls : List Call) → Numbered (sentBy start calls) (polled calls)
 polled-numbered calls = numbered-all (sentBy start calls) (polled calls) (λ s. (0, polled-fine calls s .0))
 
+-- what holds of each poll holds of a frame that is one
+pub of-polls : (P : Frame → Type 0) → ((cc : Channel) → P (poll cc)) → (f : Frame) → isPoll f ≡ true → P f
+of-polls P h (broadcast cc time altitude spin phase) e = absurd (false≢true e)
+of-polls P h (command cc id sequence parameters) e = absurd (false≢true e)
+of-polls P h (tick r) e = absurd (false≢true e)
+of-polls P h (sample s x) e = absurd (false≢true e)
+of-polls P h (poll cc) e = h cc
+of-polls P h (status cc low flags) e = absurd (false≢true e)
+of-polls P h (analogue bytes) e = absurd (false≢true e)
+of-polls P h faulty e = absurd (false≢true e)
+
 -- an accepted poll finds a piece, so its bytes are among them
 some-first : (q : List (Piece (List ℕ))) (out : List ℕ) → eqb (length (map wire q)) 0 ≡ false
     → map (λ p. p .bytes) (map (written out) (take 1 q)) ≡ out ∷ []
 some-first [] out h = absurd (eqb-false 0 0 h refl)
 some-first (p ∷ q) out h = refl
 
-first-waits : (c : Controller) (w : Numbers) → Beside c w → (f : Frame) → nothingWaits f c ≡ false → (out : List ℕ)
+first-waits : (c : Controller) (w : Numbers) → Beside c w → (f : Frame) → Clear c f 9 → (out : List ℕ)
     → map (λ p. p .bytes) (map (written out) (cond (isPoll f) (take 1 (w .waiting)) [])) ≡ cond (isPoll f) (out ∷ []) []
-first-waits c w k (broadcast cc time altitude spin phase) h out = refl
-first-waits c w k (command cc id sequence parameters) h out = refl
-first-waits c w k (tick r) h out = refl
-first-waits c w k (sample t x) h out = refl
-first-waits c w k (poll cdmuA) h out = some-first (w .waiting) out (ap (λ (q : List (Piece (List ℕ))). eqb (length q) 0) (sym (k .queue)) ∙ h)
-first-waits c w k (poll cdmuB) h out = some-first (w .waiting) out (ap (λ (q : List (Piece (List ℕ))). eqb (length q) 0) (sym (k .queue)) ∙ h)
-first-waits c w k (status cc low flags) h out = refl
-first-waits c w k (analogue bytes) h out = refl
-first-waits c w k faulty h out = refl
+first-waits c w k f h out = by (isPoll f) refl
+  where
+    some : isPoll f ≡ true → eqb (length (c .queue)) 0 ≡ false
+    some e = of-polls (λ g. Clear c g 9 → eqb (length (c .queue)) 0 ≡ false) (λ cc z. z) f e h
+
+    by : (b : Bool) → isPoll f ≡ b
+        → map (λ p. p .bytes) (map (written out) (cond b (take 1 (w .waiting)) [])) ≡ cond b (out ∷ []) []
+    by true e = some-first (w .waiting) out (ap (λ (q : List (Piece (List ℕ))). eqb (length q) 0) (sym (k .queue)) ∙ some e)
+    by false e = refl
 
 one-output : (c : Controller) (w : Numbers) → Beside c w → (x : Call) (rest : List (List ℕ)) (more : List Polled)
     → map (λ p. p .bytes) more ≡ rest
@@ -488,7 +488,7 @@ one-output c w k x rest more e = by (isAccepted (step c (x .bytes) (x .room) .re
     f : Frame
     f = frameOf (x .bytes)
 
-    waits : isAccepted (step c (x .bytes) (x .room) .reply) ≡ true → nothingWaits f c ≡ false
+    waits : isAccepted (step c (x .bytes) (x .room) .reply) ≡ true → Clear c f 9
     waits t = passed c f (x .room) (sym (reply-is c (x .bytes) (x .room)) ∙ eqb-true _ 0 t) .waits
 
     onto : (b : Bool) → cond b (out ∷ []) [] ++ rest ≡ cond b (out ∷ rest) rest

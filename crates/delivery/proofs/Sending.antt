@@ -14,7 +14,7 @@ use borrow.Author.Tests.{eqb-true, not-false}
 use Rattle.wire.specs.Wire.{be16}
 use Rattle.paper.specs.Frames.{Channel, Frame, broadcast, command, tick, sample, poll, status, analogue, faulty, frameOf}
 use Rattle.paper.specs.Impact.{Impact, Stamp}
-use Rattle.paper.specs.Commands.{clear, housekeeping, setMode, Decoded, request, refusal, names, decoded}
+use Rattle.paper.specs.Commands.{names, decoded}
 use Rattle.paper.specs.Streams.{rowOf, acc-i, den, hk, pieces, listed, perPacket, width, carried}
 use Rattle.paper.specs.Streams as table
 use Rattle.paper.specs.Packets.{pack, joined, dataOf, opening, closing, header, datastream, cut}
@@ -25,7 +25,7 @@ use Rattle.paper.specs.Acts.{completes, taken, impactPacket, joinedBy, closes, 
 use Rattle.paper.specs.Step.{holds, queues, reply, replied, step}
 use Rattle.paper.specs.Reader.{packet, packetOf}
 use Rattle.paper.specs.Runs.{Call, runs}
-use Rattle.paper.specs.History.{isAccepted, fullPacket, onlyIf, sent, sentAt, sentBy, countsAfter, numberedAll, spares, stillWaiting, sparedAt, stillWaitingAt}
+use Rattle.paper.specs.History.{isAccepted, fullPacket, onlyIf, sent, sentAt, sentBy, countsAfter, numberedAll, Takes, nothing, theFirst, named, takes, leaves, stillWaiting, sparedAt, stillWaitingAt}
 use Rattle.paper.proofs.Packets.{length-pack}
 use Rattle.paper.proofs.All.{All, all-append, all-drop, all-without}
 use Rattle.paper.proofs.Table.{row-stream, rule, sampled-carried}
@@ -182,21 +182,10 @@ ready-all (p ∷ ps) counts w h =
     (ready-numbered s (counts s) (cut (pieces s) (p .1)) (w .0 .0) (h s) (full-cut (pieces s) (p .1)))
     (ready-all ps _ (w .1) (put-below counts s _ h (after-below (counts s) (cut (pieces s) (p .1)) (h s))))
 
-ready-spares : (d : Decoded) (q : List (Piece (List ℕ))) → Readies q → Readies (spares d q)
-ready-spares (request (clear mask)) q r = all-without _ (names mask) q r
-ready-spares (request housekeeping) q r = r
-ready-spares (request (setMode value)) q r = r
-ready-spares (refusal n) q r = r
-
-ready-still : (f : Frame) (q : List (Piece (List ℕ))) → Readies q → Readies (stillWaiting f q)
-ready-still (broadcast cc time altitude spin phase) q r = r
-ready-still (command cc id sequence parameters) q r = ready-spares (decoded id parameters) q r
-ready-still (tick n) q r = r
-ready-still (sample s x) q r = r
-ready-still (poll cc) q r = all-drop _ 1 q r
-ready-still (status cc low flags) q r = r
-ready-still (analogue bytes) q r = r
-ready-still faulty q r = r
+ready-leaves : (t : Takes) (q : List (Piece (List ℕ))) → Readies q → Readies (leaves t q)
+ready-leaves nothing q r = r
+ready-leaves theFirst q r = all-drop _ 1 q r
+ready-leaves (named mask) q r = all-without _ (names mask) q r
 
 -- Every piece that waits is ready, and so is every count that the next one takes.
 pub record Waits (c : Controller) : Type 0 where
@@ -220,7 +209,7 @@ waits-step c x k w =
     }
   where
     by : (b : Bool) → Readies (cond b (stillWaiting (frameOf (x .bytes)) (c .queue)) (c .queue))
-    by true = ready-still (frameOf (x .bytes)) (c .queue) (w .ready)
+    by true = ready-leaves (takes (frameOf (x .bytes))) (c .queue) (w .ready)
     by false = w .ready
 
 pub waits-runs : (xs : List Call) (c : Controller) → Sizes c → Waits c → Waits (runs c xs)

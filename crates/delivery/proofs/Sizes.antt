@@ -20,11 +20,11 @@ use Rattle.paper.specs.Streams as table
 use Rattle.paper.specs.Queue.{Piece, put}
 use Rattle.paper.specs.Controller.{Open, nothingOpen, Controller, start, queued, withImpact, stampNow}
 use Rattle.paper.specs.Acts.{emptied, enter, heard, moved, counted, inProximity, completes, taken, detected, watched, watching, ended, impactPacket, completed, ticks, joinedBy, closes, closed, extended, sampled, noted, cleared, commanded, obeyed, polled, performed, polledFrom, accepted, answer}
-use Rattle.paper.specs.Step.{holds, reply, lateHeard, erred, isError, refused, outcome, replied, step}
+use Rattle.paper.specs.Step.{holds, reply, lateHeard, erred, refused, outcome, replied, step}
 use Rattle.paper.specs.Runs.{Call, runs}
 use Rattle.paper.proofs.All.{All, all-append}
-use Rattle.paper.proofs.Shapes.{through}
-use Rattle.paper.proofs.Refusals.{Passed, passed}
+use Rattle.paper.proofs.Shapes.{Shaped, shaped}
+use Rattle.paper.proofs.Refusals.{Passed, passed, refused-any}
 
 -- ---- what the controller holds for packets to come
 
@@ -166,32 +166,7 @@ unfolding polledFrom polled
 sizes-polled c cc [] k = k
 sizes-polled c cc (p ∷ rest) k = k
 
--- what a frame's bytes say of its size
-abbrev Shaped : Frame → Type 0
-Shaped (broadcast cc time altitude spin phase) = Unit {0}
-Shaped (command cc id sequence parameters) = Unit {0}
-Shaped (tick r) = Unit {0}
-Shaped (sample s x) = Unit {0}
-Shaped (poll cc) = Unit {0}
-Shaped (status cc low flags) = Unit {0}
-Shaped (analogue bytes) = length bytes ≡ 58
-Shaped faulty = Unit {0}
-
-shaped : (f : List ℕ) → Shaped (frameOf f)
-shaped f =
-    through Shaped f
-    (record {
-      broadcasts = λ cc. tt;
-      commands = λ cc. tt;
-      ticks = tt;
-      samples = tt;
-      polls = λ cc. tt;
-      statuses = λ cc. tt;
-      analogues = λ l. omega (arith, l, length-drop 1 f);
-      none = tt;
-    })
-
-sizes-accepted : (c : Controller) (f : Frame) (room : ℕ) → Shaped f → Passed c f room → Sizes c → Sizes (accepted c f)
+sizes-accepted : (c : Controller) (f : Frame) (room : ℕ) → Shaped (λ x. Unit {0}) f → Passed c f room → Sizes c → Sizes (accepted c f)
 unfolding accepted heard noted
 sizes-accepted c (broadcast cc time altitude spin phase) room h p k = sizes-moved (heard c cc time altitude spin phase) k
 sizes-accepted c (command cc id sequence parameters) room h p k = sizes-performed (noted c cc id sequence) (decoded id parameters) k
@@ -204,23 +179,8 @@ sizes-accepted c (analogue bytes) room h p k = record { readings = k .readings; 
 sizes-accepted c faulty room h p k = k
 
 sizes-refused : (n : ℕ) (f : Frame) (c : Controller) → Sizes c → Sizes (refused n f c)
-unfolding refused lateHeard erred
-sizes-refused n (broadcast cc time altitude spin phase) c k = by (eqb n 5)
-  where
-    by : (b : Bool) → Sizes (cond b (lateHeard c cc) c)
-    by true = k
-    by false = k
-sizes-refused n (command cc id sequence parameters) c k = by (isError n)
-  where
-    by : (b : Bool) → Sizes (cond b (erred c cc n) c)
-    by true = k
-    by false = k
-sizes-refused n (tick r) c k = k
-sizes-refused n (sample s x) c k = k
-sizes-refused n (poll cc) c k = k
-sizes-refused n (status cc low flags) c k = k
-sizes-refused n (analogue bytes) c k = k
-sizes-refused n faulty c k = k
+unfolding lateHeard erred
+sizes-refused n f c k = refused-any Sizes n f c k (λ cc. k) (λ cc m. k)
 
 -- a call keeps them
 pub sizes-step : (c : Controller) (x : Call) → Sizes c → Sizes (step c (x .bytes) (x .room) .next)
@@ -232,7 +192,7 @@ sizes-step c x k = by (reply (holds c) f (x .room)) refl (eqb (reply (holds c) f
 
     by : (n : ℕ) → reply (holds c) f (x .room) ≡ n → (b : Bool) → eqb n 0 ≡ b
         → Sizes (cond b (outcome 0 (answer c f) (accepted c f)) (outcome n [] (refused n f c)) .next)
-    by n r true e = sizes-accepted c f (x .room) (shaped (x .bytes)) (passed c f (x .room) (r ∙ eqb-true n 0 e)) k
+    by n r true e = sizes-accepted c f (x .room) (shaped (λ y. Unit {0}) (x .bytes) tt) (passed c f (x .room) (r ∙ eqb-true n 0 e)) k
     by n r false e = sizes-refused n f c k
 
 pub sizes-runs : (xs : List Call) (c : Controller) → Sizes c → Sizes (runs c xs)

@@ -27,7 +27,7 @@ use Rattle.paper.specs.Streams.{pieces}
 use Rattle.paper.specs.Packets.{cut}
 use Rattle.paper.specs.Queue.{Piece, put}
 use Rattle.paper.specs.Controller.{Controller, start}
-use Rattle.paper.specs.Step.{Outcome, step}
+use Rattle.paper.specs.Step.{countOf, Outcome, step}
 use Rattle.paper.specs.Reader.{Packet, packet, notCarried, noPacket, packetOf, readerStart, readerStep}
 use Rattle.paper.specs.Runs.{Call, replies, readings}
 use Rattle.paper.specs.History.{pollOn, isAccepted, sentAt, sentBy, countsAfter, numberedAll, sparedAt}
@@ -57,7 +57,7 @@ numbersAfter c w x =
     }
 
 abbrev pub isPoll : Frame → Bool
-isPoll f = pollOn cdmuA f || pollOn cdmuB f
+isPoll f = pollOn cdmuA (countOf f) || pollOn cdmuB (countOf f)
 
 -- an accepted poll takes the first piece that waits
 unfoldable pub takenAt : Controller → Call → List (Piece (List ℕ)) → List (Piece (List ℕ))

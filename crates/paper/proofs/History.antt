@@ -20,10 +20,10 @@ use Rattle.paper.specs.Queue.{Piece, wrap, after, put, without}
 use Rattle.paper.specs.Controller.{Both, at, raised, raised8, raisedAt, Tallies, Open, Controller, start, queued, withImpact, stampNow}
 use Rattle.paper.specs.Housekeeping.{housekeepingPacket}
 use Rattle.paper.specs.Acts.{enter, heard, moved, counted as ticked, inProximity, last, completes, taken, watching, ended, impactPacket, completed, ticks, joinedBy, closes, closed, extended, sampled, noted, cleared, commanded, obeyed, polled, performed, polledFrom, accepted, answer}
-use Rattle.paper.specs.Step.{holds, queues, nothingWaits, reply, lateHeard, erred, isError, refused, Outcome, outcome, replied, step}
+use Rattle.paper.specs.Step.{holds, queues, reply, lateHeard, erred, isError, Count, ofBroadcasts, ofCommands, ofPolls, ofNone, countOf, unchanged, lateOn, errorOn, change, changed, refused, Outcome, outcome, replied, step}
 use Rattle.paper.specs.Runs.{Call, runs}
-use Rattle.paper.specs.History.{Counted, history, howMany, sameChannel, commandOn, broadcastsOn, packetsOn, commandsIn, pollsOn, errorsIn, isAccepted, raisesBroadcasts, raisesPackets, raisesCommands, raisesTelemetry, raisesErrors, fullPacket, onlyIf, sent, sentAt, sentBy, piecesOf, countsAfter, numberedAll, spares, stillWaiting, sparedAt, stillWaitingAt}
-use Rattle.paper.proofs.Refusals.{passed}
+use Rattle.paper.specs.History.{Counted, history, howMany, sameChannel, broadcastsOn, packetsOn, commandsIn, pollsOn, errorsIn, isAccepted, raisesBroadcasts, raisesPackets, raisesCommands, raisesTelemetry, raisesErrors, fullPacket, onlyIf, sent, sentAt, sentBy, piecesOf, countsAfter, numberedAll, clears, leaves, stillWaiting, sparedAt, stillWaitingAt}
+use Rattle.paper.proofs.Refusals.{Clear, passed, refused-any}
 
 -- ---- what packets do to queue and counts
 
@@ -114,7 +114,7 @@ queues-sampled c s x = by (closes c s)
     by false = queues-none c (extended c s o) (c .queue) refl refl
 
 queues-performed : (c b : Controller) (d : Decoded) → b .queue ≡ c .queue → b .counts ≡ c .counts
-    → Queues c (performed b d) (spares d (c .queue)) (onlyIf (queues d) (hk, housekeepingPacket b))
+    → Queues c (performed b d) (leaves (clears d) (c .queue)) (onlyIf (queues d) (hk, housekeepingPacket b))
 unfolding performed obeyed cleared commanded
 queues-performed c b (request (clear mask)) e f = queues-none c (cleared b mask) _ (ap (without (names mask)) e) f
 queues-performed c b (request housekeeping) e f = queues-one c b hk (housekeepingPacket b) e f
@@ -168,23 +168,10 @@ clear-counts c cc id sequence mask parameters e = rw e
 
 -- a refusal queues nothing and takes nothing away
 pub queues-refused : (n : ℕ) (f : Frame) (c : Controller) → Queues c (refused n f c) (c .queue) []
-unfolding refused lateHeard erred
-queues-refused n (broadcast cc time altitude spin phase) c = by (eqb n 5)
-  where
-    by : (b : Bool) → Queues c (cond b (lateHeard c cc) c) (c .queue) []
-    by true = queues-none c (lateHeard c cc) (c .queue) refl refl
-    by false = queues-none c c (c .queue) refl refl
-queues-refused n (command cc id sequence parameters) c = by (isError n)
-  where
-    by : (b : Bool) → Queues c (cond b (erred c cc n) c) (c .queue) []
-    by true = queues-none c (erred c cc n) (c .queue) refl refl
-    by false = queues-none c c (c .queue) refl refl
-queues-refused n (tick r) c = queues-none c c (c .queue) refl refl
-queues-refused n (sample s x) c = queues-none c c (c .queue) refl refl
-queues-refused n (poll cc) c = queues-none c c (c .queue) refl refl
-queues-refused n (status cc low flags) c = queues-none c c (c .queue) refl refl
-queues-refused n (analogue bytes) c = queues-none c c (c .queue) refl refl
-queues-refused n faulty c = queues-none c c (c .queue) refl refl
+unfolding lateHeard erred
+queues-refused n f c =
+    refused-any (λ d. Queues c d (c .queue) []) n f c (queues-none c c (c .queue) refl refl)
+    (λ cc. queues-none c (lateHeard c cc) (c .queue) refl refl) (λ cc m. queues-none c (erred c cc m) (c .queue) refl refl)
 
 -- the law of a call
 pub queues-step : (c : Controller) (x : Call) → Queues c (step c (x .bytes) (x .room) .next) (stillWaitingAt c x) (sentAt c x)
@@ -213,12 +200,12 @@ abbrev raised8If : Bool → ℕ → ℕ
 raised8If b n = cond b (raised8 n) n
 
 -- the step: the counts u that a frame leaves, having got its reply, of the counts t before
-pub record Adds (f : Frame) (n : ℕ) (t u : Tallies) : Type 0 where
-  pub broadcasts : (cc : Channel) → at cc (u .broadcasts) ≡ raisedIf (raisesBroadcasts cc f n) (at cc (t .broadcasts))
-  pub packets : (cc : Channel) → at cc (u .packets) ≡ raisedIf (raisesPackets cc f n) (at cc (t .packets))
-  pub telemetry : (cc : Channel) → at cc (u .telemetry) ≡ raisedIf (raisesTelemetry cc f n) (at cc (t .telemetry))
-  pub commands : u .commands ≡ raisedIf (raisesCommands f n) (t .commands)
-  pub errors : u .errors ≡ raised8If (raisesErrors f n) (t .errors)
+pub record Adds (k : Count) (n : ℕ) (t u : Tallies) : Type 0 where
+  pub broadcasts : (cc : Channel) → at cc (u .broadcasts) ≡ raisedIf (raisesBroadcasts cc k n) (at cc (t .broadcasts))
+  pub packets : (cc : Channel) → at cc (u .packets) ≡ raisedIf (raisesPackets cc k n) (at cc (t .packets))
+  pub telemetry : (cc : Channel) → at cc (u .telemetry) ≡ raisedIf (raisesTelemetry cc k n) (at cc (t .telemetry))
+  pub commands : u .commands ≡ raisedIf (raisesCommands k n) (t .commands)
+  pub errors : u .errors ≡ raised8If (raisesErrors k n) (t .errors)
 
 -- only the named channel's count goes on
 at-raised : (cc dd : Channel) (m : Both) (b : Bool) → at cc (cond b (raisedAt dd m) m) ≡ raisedIf (sameChannel cc dd && b) (at cc m)
@@ -290,20 +277,12 @@ tallies-performed c (request housekeeping) = refl
 tallies-performed c (request (setMode value)) = refl
 tallies-performed c (refusal n) = refl
 
--- a frame that is neither broadcast, command nor poll adds to no count, nor does a refused poll
-adds-none : (f : Frame) (n : ℕ) (t : Tallies) → ((cc : Channel) → raisesBroadcasts cc f n ≡ false)
-    → ((cc : Channel) → commandOn cc f ≡ false) → ((cc : Channel) → raisesTelemetry cc f n ≡ false) → Adds f n t t
-adds-none f n t b k p =
-    record {
-      broadcasts = λ cc. rw (b cc);
-      packets = λ cc. rw (k cc);
-      telemetry = λ cc. rw (p cc);
-      commands = rw (k cdmuA, k cdmuB);
-      errors = rw (k cdmuA, k cdmuB);
-    }
+-- a frame that raises nobody's count adds to none
+adds-none : (n : ℕ) (t : Tallies) → Adds ofNone n t t
+adds-none n t = record { broadcasts = λ cc. refl; packets = λ cc. refl; telemetry = λ cc. refl; commands = refl; errors = refl }
 
 adds-polled : (c : Controller) (dd : Channel) (q : List (Piece (List ℕ))) → eqb (length q) 0 ≡ false
-    → Adds (poll dd) 0 (c .tallies) (polledFrom c dd q .tallies)
+    → Adds (ofPolls dd) 0 (c .tallies) (polledFrom c dd q .tallies)
 unfolding polledFrom polled
 adds-polled c dd [] h = absurd (eqb-false 0 0 h refl)
 adds-polled c dd (p ∷ rest) h =
@@ -315,7 +294,7 @@ adds-polled c dd (p ∷ rest) h =
       errors = refl;
     }
 
-adds-accepted : (c : Controller) (f : Frame) → nothingWaits f c ≡ false → Adds f 0 (c .tallies) (accepted c f .tallies)
+adds-accepted : (c : Controller) (f : Frame) → Clear c f 9 → Adds (countOf f) 0 (c .tallies) (accepted c f .tallies)
 unfolding accepted heard noted
 adds-accepted c (broadcast dd time altitude spin phase) h =
     rw (tallies-moved (heard c dd time altitude spin phase))
@@ -335,20 +314,18 @@ adds-accepted c (command dd id sequence parameters) h =
       commands = rw (either-channel dd);
       errors = rw (either-channel dd);
     })
-adds-accepted c (tick r) h = rw (tallies-ticks c r) (adds-none (tick r) 0 (c .tallies) (λ cc. refl) (λ cc. refl) (λ cc. refl))
-adds-accepted c (sample s x) h =
-    rw (tallies-sampled c s x) (adds-none (sample s x) 0 (c .tallies) (λ cc. refl) (λ cc. refl) (λ cc. refl))
+adds-accepted c (tick r) h = rw (tallies-ticks c r) (adds-none 0 (c .tallies))
+adds-accepted c (sample s x) h = rw (tallies-sampled c s x) (adds-none 0 (c .tallies))
 adds-accepted c (poll cc) h = adds-polled c cc (c .queue) h
-adds-accepted c (status cc low flags) h = adds-none (status cc low flags) 0 (c .tallies) (λ cc. refl) (λ cc. refl) (λ cc. refl)
-adds-accepted c (analogue bytes) h = adds-none (analogue bytes) 0 (c .tallies) (λ cc. refl) (λ cc. refl) (λ cc. refl)
-adds-accepted c faulty h = adds-none faulty 0 (c .tallies) (λ cc. refl) (λ cc. refl) (λ cc. refl)
+adds-accepted c (status cc low flags) h = adds-none 0 (c .tallies)
+adds-accepted c (analogue bytes) h = adds-none 0 (c .tallies)
+adds-accepted c faulty h = adds-none 0 (c .tallies)
 
-adds-refused : (n : ℕ) (f : Frame) (c : Controller) → eqb n 0 ≡ false → Adds f n (c .tallies) (refused n f c .tallies)
-unfolding refused lateHeard erred
-adds-refused n (broadcast dd time altitude spin phase) c z = by (eqb n 5) refl
+adds-refused : (n : ℕ) (k : Count) (c : Controller) → eqb n 0 ≡ false → Adds k n (c .tallies) (changed (change n k) c .tallies)
+unfolding lateHeard erred
+adds-refused n (ofBroadcasts dd) c z = by (eqb n 5) refl
   where
-    by : (b : Bool) → eqb n 5 ≡ b
-        → Adds (broadcast dd time altitude spin phase) n (c .tallies) (cond b (lateHeard c dd) c .tallies)
+    by : (b : Bool) → eqb n 5 ≡ b → Adds (ofBroadcasts dd) n (c .tallies) (changed (cond b (lateOn dd) unchanged) c .tallies)
     by true e =
         record {
           broadcasts = λ cc. rw (z, e) (at-raised cc dd (c .tallies .broadcasts) true);
@@ -365,10 +342,9 @@ adds-refused n (broadcast dd time altitude spin phase) c z = by (eqb n 5) refl
           commands = refl;
           errors = refl;
         }
-adds-refused n (command dd id sequence parameters) c z = by (isError n) refl
+adds-refused n (ofCommands dd) c z = by (isError n) refl
   where
-    by : (b : Bool) → isError n ≡ b
-        → Adds (command dd id sequence parameters) n (c .tallies) (cond b (erred c dd n) c .tallies)
+    by : (b : Bool) → isError n ≡ b → Adds (ofCommands dd) n (c .tallies) (changed (cond b (errorOn dd n) unchanged) c .tallies)
     by true e =
         record {
           broadcasts = λ cc. refl;
@@ -385,20 +361,19 @@ adds-refused n (command dd id sequence parameters) c z = by (isError n) refl
           commands = rw (either-channel dd, z);
           errors = rw (either-channel dd, e);
         }
-adds-refused n (tick r) c z = adds-none (tick r) n (c .tallies) (λ cc. refl) (λ cc. refl) (λ cc. refl)
-adds-refused n (sample s x) c z = adds-none (sample s x) n (c .tallies) (λ cc. refl) (λ cc. refl) (λ cc. refl)
-adds-refused n (poll dd) c z = adds-none (poll dd) n (c .tallies) (λ cc. refl) (λ cc. refl) (λ cc. refused-poll (sameChannel cc dd))
-  where
-    refused-poll : (b : Bool) → b && eqb n 0 ≡ false
-    refused-poll true = z
-    refused-poll false = refl
-adds-refused n (status cc low flags) c z = adds-none (status cc low flags) n (c .tallies) (λ cc. refl) (λ cc. refl) (λ cc. refl)
-adds-refused n (analogue bytes) c z = adds-none (analogue bytes) n (c .tallies) (λ cc. refl) (λ cc. refl) (λ cc. refl)
-adds-refused n faulty c z = adds-none faulty n (c .tallies) (λ cc. refl) (λ cc. refl) (λ cc. refl)
+adds-refused n (ofPolls dd) c z =
+    record {
+      broadcasts = λ cc. refl;
+      packets = λ cc. refl;
+      telemetry = λ cc. rw z (at-raised cc dd (c .tallies .telemetry) false);
+      commands = refl;
+      errors = refl;
+    }
+adds-refused n ofNone c z = adds-none n (c .tallies)
 
 pub adds-step : (c : Controller) (bytes : List ℕ) (room : ℕ)
-    → Adds (frameOf bytes) (step c bytes room .reply) (c .tallies) (step c bytes room .next .tallies)
-unfolding step replied
+    → Adds (countOf (frameOf bytes)) (step c bytes room .reply) (c .tallies) (step c bytes room .next .tallies)
+unfolding step replied refused
 adds-step c bytes room = by (reply (holds c) f room) refl (eqb (reply (holds c) f room) 0) refl
   where
     f : Frame
@@ -408,14 +383,14 @@ adds-step c bytes room = by (reply (holds c) f room) refl (eqb (reply (holds c) 
     o b n = cond b (outcome 0 (answer c f) (accepted c f)) (outcome n [] (refused n f c))
 
     by : (n : ℕ) → reply (holds c) f room ≡ n → (b : Bool) → eqb n 0 ≡ b
-        → Adds f (o b n .reply) (c .tallies) (o b n .next .tallies)
+        → Adds (countOf f) (o b n .reply) (c .tallies) (o b n .next .tallies)
     by n r true e = adds-accepted c f (passed c f room (r ∙ eqb-true n 0 e) .waits)
-    by n r false e = adds-refused n f c e
+    by n r false e = adds-refused n (countOf f) c e
 
 -- ---- counts along a run
 
-how-many-snoc : (test : Frame → ℕ → Bool) (h : List (Frame × ℕ)) (f : Frame) (n : ℕ)
-    → howMany test (h ++ ((f, n) ∷ [])) ≡ howMany test h + cond (test f n) 1 0
+how-many-snoc : (test : Count → ℕ → Bool) (h : List (Frame × ℕ)) (f : Frame) (n : ℕ)
+    → howMany test (h ++ ((f, n) ∷ [])) ≡ howMany test h + cond (test (countOf f) n) 1 0
 how-many-snoc test [] f n = omega arith
 how-many-snoc test (e ∷ h) f n = let r = how-many-snoc test h f n in omega arith
 
@@ -432,12 +407,12 @@ raise8 : (b : Bool) (x m : ℕ) → x ≡ m % 256 → raised8If b x ≡ (m + con
 raise8 true x m e = omega arith
 raise8 false x m e = omega arith
 
-module _ (test : Frame → ℕ → Bool) (h : List (Frame × ℕ)) (f : Frame) (n x : ℕ) where
-  goes-on : x ≡ howMany test h % 65536 → raisedIf (test f n) x ≡ howMany test (h ++ ((f, n) ∷ [])) % 65536
-  goes-on e = rw how-many-snoc (raise (test f n) x (howMany test h) e)
+module _ (test : Count → ℕ → Bool) (h : List (Frame × ℕ)) (f : Frame) (n x : ℕ) where
+  goes-on : x ≡ howMany test h % 65536 → raisedIf (test (countOf f) n) x ≡ howMany test (h ++ ((f, n) ∷ [])) % 65536
+  goes-on e = rw how-many-snoc (raise (test (countOf f) n) x (howMany test h) e)
 
-  goes-on8 : x ≡ howMany test h % 256 → raised8If (test f n) x ≡ howMany test (h ++ ((f, n) ∷ [])) % 256
-  goes-on8 e = rw how-many-snoc (raise8 (test f n) x (howMany test h) e)
+  goes-on8 : x ≡ howMany test h % 256 → raised8If (test (countOf f) n) x ≡ howMany test (h ++ ((f, n) ∷ [])) % 256
+  goes-on8 e = rw how-many-snoc (raise8 (test (countOf f) n) x (howMany test h) e)
 
 -- counts go on by a packet's pieces
 length-chunks : (n k : ℕ) (l : List ℕ) → length (chunks n k l) ≡ k
@@ -488,7 +463,7 @@ counted-step c x h ps k =
     n : ℕ
     n = step c (x .bytes) (x .room) .reply
 
-    a : Adds f n (c .tallies) (step c (x .bytes) (x .room) .next .tallies)
+    a : Adds (countOf f) n (c .tallies) (step c (x .bytes) (x .room) .next .tallies)
     a = adds-step c (x .bytes) (x .room)
 
 -- from any history so far

@@ -22,10 +22,10 @@ use Rattle.paper.specs.Packets.{pieceSize, filled, chunks, cut}
 use Rattle.paper.specs.Queue.{Piece, wrap, numbered}
 use Rattle.paper.specs.Controller.{Open, Controller, start, queued, withImpact, stampNow}
 use Rattle.paper.specs.Acts.{emptied, enter, heard, moved, counted, inProximity, last, completes, taken, watching, ended, impactPacket, completed, ticks, joinedBy, closes, closed, extended, sampled, noted, cleared, commanded, obeyed, shown, polled, performed, polledFrom, shownFrom, accepted, answer}
-use Rattle.paper.specs.Step.{holds, first, reply, nothingWaits, lateHeard, erred, refused, isError, outcome, replied, step}
+use Rattle.paper.specs.Step.{holds, first, reply, lateHeard, erred, refused, outcome, replied, step}
 use Rattle.paper.specs.Runs.{Call, runs}
 use Rattle.paper.proofs.All.{All, all-append, all-without}
-use Rattle.paper.proofs.Refusals.{reply-is, passed}
+use Rattle.paper.proofs.Refusals.{Clear, reply-is, passed, refused-any}
 
 -- ---- pieces of 118 bytes
 
@@ -233,23 +233,10 @@ kept-accepted c (analogue bytes) k = record { whole = k .whole; proximal = k .pr
 kept-accepted c faulty k = k
 
 kept-refused : (n : ℕ) (f : Frame) (c : Controller) → Kept c → Kept (refused n f c)
-unfolding refused lateHeard erred
-kept-refused n (broadcast cc time altitude spin phase) c k = at (eqb n 5)
-  where
-    at : (b : Bool) → Kept (cond b (lateHeard c cc) c)
-    at true = record { whole = k .whole; proximal = k .proximal }
-    at false = k
-kept-refused n (command cc id sequence parameters) c k = at (isError n)
-  where
-    at : (b : Bool) → Kept (cond b (erred c cc n) c)
-    at true = record { whole = k .whole; proximal = k .proximal }
-    at false = k
-kept-refused n (tick r) c k = k
-kept-refused n (sample s x) c k = k
-kept-refused n (poll cc) c k = k
-kept-refused n (status cc low flags) c k = k
-kept-refused n (analogue bytes) c k = k
-kept-refused n faulty c k = k
+unfolding lateHeard erred
+kept-refused n f c k =
+    refused-any Kept n f c k (λ cc. record { whole = k .whole; proximal = k .proximal })
+    (λ cc m. record { whole = k .whole; proximal = k .proximal })
 
 pub kept-step : (c : Controller) (bytes : List ℕ) (room : ℕ) → Kept c → Kept (step c bytes room .next)
 unfolding step replied
@@ -289,7 +276,7 @@ unfolding shownFrom shown
 shown-size c cc [] w h = absurd (h refl)
 shown-size c cc (p ∷ rest) w h = omega (arith, w .0)
 
-answer-size : (c : Controller) (f : Frame) → Kept c → nothingWaits f c ≡ false → length (answer c f) ≡ written f
+answer-size : (c : Controller) (f : Frame) → Kept c → Clear c f 9 → length (answer c f) ≡ written f
 unfolding answer
 answer-size c (broadcast cc time altitude spin phase) k e = refl
 answer-size c (command cc id sequence parameters) k e = refl
