@@ -92,13 +92,13 @@ leaves-wire (named mask) q = without-wire (names mask) q
 
 -- a controller, and the numbers beside it
 pub record Beside (c : Controller) (w : Numbers) : Type 0 where
-  pub queue : c .queue ≡ map wire (w .waiting)
-  pub counts : (t : ℕ) → c .counts t ≡ w .queued t % 4096
+  pub queue : c .streams .queue ≡ map wire (w .waiting)
+  pub counts : (t : ℕ) → c .streams .counts t ≡ w .queued t % 4096
 
 pub beside-step : (c : Controller) (w : Numbers) (x : Call) → Beside c w → Beside (step c (x .bytes) (x .room) .next) (numbersAfter c w x)
 unfolding numbersAfter sparedAt stillWaitingAt
 beside-step c w x k =
-    let all = all-wire (sentAt c x) (w .queued) (c .counts) (k .counts) in
+    let all = all-wire (sentAt c x) (w .queued) (c .streams .counts) (k .counts) in
     record {
       queue =
           queues-step c x .queue
@@ -108,7 +108,7 @@ beside-step c w x k =
     }
   where
     at : (b : Bool)
-        → cond b (stillWaiting (frameOf (x .bytes)) (c .queue)) (c .queue)
+        → cond b (stillWaiting (frameOf (x .bytes)) (c .streams .queue)) (c .streams .queue)
         ≡ map wire (cond b (stillWaiting (frameOf (x .bytes)) (w .waiting)) (w .waiting))
     at true = ap (stillWaiting (frameOf (x .bytes))) (k .queue) ∙ leaves-wire (takes (frameOf (x .bytes))) (w .waiting)
     at false = k .queue
@@ -291,7 +291,7 @@ Effect s waiting taken spared out =
     ⊎ ((p : Piece (List ℕ)) × (q : List (Piece (List ℕ))) × (waiting ≡ p ∷ q) × (taken ≡ p ∷ []) × (spared ≡ q)
     × (packetOf out ≡ packet (p .stream) (p .count % 4096) (p .body)))
 
-module _ (s : ℕ) (c : Controller) (w : Numbers) (k : Beside c w) (g : Readies (c .queue)) where
+module _ (s : ℕ) (c : Controller) (w : Numbers) (k : Beside c w) (g : Readies (c .streams .queue)) where
   polls : (cc : Channel) (q : List (Piece (List ℕ))) → Readies (map wire q)
       → Effect s q (take 1 q) (drop 1 q) (shownFrom c cc (map wire q))
   unfolding shownFrom
@@ -299,7 +299,7 @@ module _ (s : ℕ) (c : Controller) (w : Numbers) (k : Beside c w) (g : Readies 
   polls cc (p ∷ q) h =
       inr (p, q, refl, refl, refl, polled-parse cc (c .tallies .telemetry) (wire p) (h .0))
 
-  first : (cc : Channel) → Effect s (w .waiting) (take 1 (w .waiting)) (drop 1 (w .waiting)) (shownFrom c cc (c .queue))
+  first : (cc : Channel) → Effect s (w .waiting) (take 1 (w .waiting)) (drop 1 (w .waiting)) (shownFrom c cc (c .streams .queue))
   first cc =
       subst (λ (q : List (Piece (List ℕ))). Effect s (w .waiting) (take 1 (w .waiting)) (drop 1 (w .waiting)) (shownFrom c cc q))
       (sym (k .queue)) (polls cc (w .waiting) (subst Readies (k .queue) g))
@@ -467,8 +467,8 @@ first-waits : (c : Controller) (w : Numbers) → Beside c w → (f : Frame) → 
     → map (λ p. p .bytes) (map (written out) (cond (isPoll f) (take 1 (w .waiting)) [])) ≡ cond (isPoll f) (out ∷ []) []
 first-waits c w k f h out = by (isPoll f) refl
   where
-    some : isPoll f ≡ true → eqb (length (c .queue)) 0 ≡ false
-    some e = of-polls (λ g. Clear c g 9 → eqb (length (c .queue)) 0 ≡ false) (λ cc z. z) f e h
+    some : isPoll f ≡ true → eqb (length (c .streams .queue)) 0 ≡ false
+    some e = of-polls (λ g. Clear c g 9 → eqb (length (c .streams .queue)) 0 ≡ false) (λ cc z. z) f e h
 
     by : (b : Bool) → isPoll f ≡ b
         → map (λ p. p .bytes) (map (written out) (cond b (take 1 (w .waiting)) [])) ≡ cond b (out ∷ []) []

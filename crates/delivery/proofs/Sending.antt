@@ -101,8 +101,8 @@ whole-samples : (c : Controller) (s : ℕ) (x : List ℕ) → table.sampled s �
 unfolding fullPacket joinedBy
 whole-samples c s x h l e k =
     whole-datastream s _ _ (sampled-carried s h)
-    (length-data s (c .opened s .samples ++ (x ∷ [])) h (all-append _ (c .opened s .samples) (x ∷ []) (k .fits s .1) (l, tt))
-    (omega (arith, length-append (c .opened s .samples) (x ∷ []), eqb-true (suc (length (c .opened s .samples))) (perPacket s) e)))
+    (length-data s (c .streams .opened s .samples ++ (x ∷ [])) h (all-append _ (c .streams .opened s .samples) (x ∷ []) (k .fits s .1) (l, tt))
+    (omega (arith, length-append (c .streams .opened s .samples) (x ∷ []), eqb-true (suc (length (c .streams .opened s .samples))) (perPacket s) e)))
 
 sent-accepted : (c : Controller) (f : Frame) (room : ℕ) → Passed c f room → Sizes c → Wholes (sent c f)
 unfolding sent noted
@@ -189,8 +189,8 @@ ready-leaves (named mask) q r = all-without _ (names mask) q r
 
 -- Every piece that waits is ready, and so is every count that the next one takes.
 pub record Waits (c : Controller) : Type 0 where
-  pub ready : Readies (c .queue)
-  pub below : Below (c .counts)
+  pub ready : Readies (c .streams .queue)
+  pub below : Below (c .streams .counts)
 
 pub waits-start : Waits start
 unfolding start
@@ -204,12 +204,12 @@ waits-step c x k w =
       ready =
           subst Readies (sym (q .queue))
           (all-append _ (stillWaitingAt c x) _ (by (isAccepted (step c (x .bytes) (x .room) .reply)))
-          (ready-all (sentAt c x) (c .counts) (sent-step c x k) (w .below)));
-      below = subst Below (sym (q .counts)) (counts-below (sentAt c x) (c .counts) (w .below));
+          (ready-all (sentAt c x) (c .streams .counts) (sent-step c x k) (w .below)));
+      below = subst Below (sym (q .counts)) (counts-below (sentAt c x) (c .streams .counts) (w .below));
     }
   where
-    by : (b : Bool) → Readies (cond b (stillWaiting (frameOf (x .bytes)) (c .queue)) (c .queue))
-    by true = ready-leaves (takes (frameOf (x .bytes))) (c .queue) (w .ready)
+    by : (b : Bool) → Readies (cond b (stillWaiting (frameOf (x .bytes)) (c .streams .queue)) (c .streams .queue))
+    by true = ready-leaves (takes (frameOf (x .bytes))) (c .streams .queue) (w .ready)
     by false = w .ready
 
 pub waits-runs : (xs : List Call) (c : Controller) → Sizes c → Waits c → Waits (runs c xs)
@@ -221,12 +221,12 @@ waits-runs (x ∷ xs) c k w = waits-runs xs (step c (x .bytes) (x .room) .next) 
 pub waits-fresh : (xs : List Call) → Waits (runs start xs)
 waits-fresh xs = waits-runs xs start sizes-start waits-start
 
-pub queue-pieces : (xs : List Call) → Readies (runs start xs .queue)
+pub queue-pieces : (xs : List Call) → Readies (runs start xs .streams .queue)
 queue-pieces xs = waits-fresh xs .ready
 
 -- An accepted poll writes the first piece that waits, and the reader finds it there.
 pub poll-tells : (c : Controller) (x : Call) (cc : Channel) (p : Piece (List ℕ)) (rest : List (Piece (List ℕ))) → Waits c
-    → frameOf (x .bytes) ≡ poll cc → c .queue ≡ p ∷ rest → step c (x .bytes) (x .room) .reply ≡ 0
+    → frameOf (x .bytes) ≡ poll cc → c .streams .queue ≡ p ∷ rest → step c (x .bytes) (x .room) .reply ≡ 0
     → packetOf (step c (x .bytes) (x .room) .out) ≡ packet (p .stream) (p .count) (p .body)
 unfolding step replied answer shownFrom
 poll-tells c x cc p rest w f q e =

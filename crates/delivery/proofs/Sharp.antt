@@ -73,9 +73,7 @@ heldWith opened m a =
             id = a .id;
           };
       housed = replicate 58 0;
-      opened = opened;
-      counts = a .counts;
-      queue = [];
+      streams = record { opened = opened; counts = a .counts; queue = [] };
     }
 
 abbrev held : ℕ → At → Controller

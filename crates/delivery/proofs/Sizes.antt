@@ -43,7 +43,7 @@ pub record Sized (ring housed : List ℕ) (opened : ℕ → Open) : Type 0 where
   pub fits : (s : ℕ) → Fits s (opened s)
 
 abbrev pub Sizes : Controller → Type 0
-Sizes c = Sized (c .impact .ring) (c .housed) (c .opened)
+Sizes c = Sized (c .impact .ring) (c .housed) (c .streams .opened)
 
 pub sizes-start : Sizes start
 unfolding start
@@ -141,21 +141,21 @@ unfolding sampled closed extended queued joinedBy
 sizes-sampled c s x h l k = by (closes c s) refl
   where
     o : Open
-    o = joinedBy (c .opened s) (stampNow c s) x
+    o = joinedBy (c .streams .opened s) (stampNow c s) x
 
     by : (b : Bool) → closes c s ≡ b → Sizes (cond b (closed c s o) (extended c s o))
-    by true e = with-open _ k (put-fits (c .opened) s nothingOpen (k .fits) (omega arith, tt))
+    by true e = with-open _ k (put-fits (c .streams .opened) s nothingOpen (k .fits) (omega arith, tt))
     by false e =
-        let few : suc (length (c .opened s .samples)) ≢ perPacket s = eqb-false _ _ e in
+        let few : suc (length (c .streams .opened s .samples)) ≢ perPacket s = eqb-false _ _ e in
         with-open _ k
-        (put-fits (c .opened) s o (k .fits) (
-          omega (arith, ltb-true 0 (perPacket s) h, k .fits s .0, few, length-append (c .opened s .samples) (x ∷ [])),
-          all-append _ (c .opened s .samples) (x ∷ []) (k .fits s .1) (l, tt),
+        (put-fits (c .streams .opened) s o (k .fits) (
+          omega (arith, ltb-true 0 (perPacket s) h, k .fits s .0, few, length-append (c .streams .opened s .samples) (x ∷ [])),
+          all-append _ (c .streams .opened s .samples) (x ∷ []) (k .fits s .1) (l, tt),
         ))
 
 sizes-performed : (c : Controller) (d : Decoded) → Sizes c → Sizes (performed c d)
 unfolding performed obeyed cleared commanded queued
-sizes-performed c (request (clear mask)) k = with-open _ k (λ s. nothing-fits (names mask s) s (c .opened s) (k .fits s))
+sizes-performed c (request (clear mask)) k = with-open _ k (λ s. nothing-fits (names mask s) s (c .streams .opened s) (k .fits s))
 sizes-performed c (request housekeeping) k = k
 sizes-performed c (request (setMode value)) k =
     sizes-enter (withImpact c (ended (c .impact))) (modeOf (value % 8)) (leb 8 value) (seconds (c .clock .time)) k
@@ -173,7 +173,7 @@ sizes-accepted c (command cc id sequence parameters) room h p k = sizes-performe
 sizes-accepted c (tick r) room h p k = sizes-ticks c r k
 sizes-accepted c (sample s x) room h p k =
     sizes-sampled c s x (not-false _ (p .carries)) (eqb-true _ _ (not-false _ (p .sized))) k
-sizes-accepted c (poll cc) room h p k = sizes-polled c cc (c .queue) k
+sizes-accepted c (poll cc) room h p k = sizes-polled c cc (c .streams .queue) k
 sizes-accepted c (status cc low flags) room h p k = k
 sizes-accepted c (analogue bytes) room h p k = record { readings = k .readings; analogues = h; fits = k .fits }
 sizes-accepted c faulty room h p k = k

@@ -92,7 +92,7 @@ module _ (s : List ℕ) (f : Fit s) where
 
   -- a command's request, where there is room for what it queues
   performs : (c : Channel) (id sequence : ℕ) (parameters : List ℕ) (d : Decoded) → decoded id parameters ≡ d
-      → (queues d && ltb (48 - length (view s .queue)) 1) ≡ false
+      → (queues d && ltb (48 - length (view s .streams .queue)) 1) ≡ false
       → Holds (performedOn (notedOn s c id sequence) d) (performed (noted (view s) c id sequence) d)
   unfolding performedOn performed noted
   performs c id sequence parameters (refusal n) e room = (noted-view s f c id sequence, noted-fit s f c id sequence)
@@ -100,7 +100,7 @@ module _ (s : List ℕ) (f : Fit s) where
       let n : List ℕ = notedOn s c id sequence in
       let seen : view n ≡ noted (view s) c id sequence = noted-view s f c id sequence in
       let waits : getD n waitingAt 0 ≡ getD s waitingAt 0 =
-      sym (queue-length n) ∙ ap (λ (x : Controller). length (x .queue)) seen ∙ queue-length s in
+      sym (queue-length n) ∙ ap (λ (x : Controller). length (x .streams .queue)) seen ∙ queue-length s in
       let done =
       obeyed-view n q (noted-fit s f c id sequence)
       (λ h. let free = slots-free s 1 (omega arith) (both-false (queues (request q)) _ (ap (λ (r : Request). queues (request r)) h) room) in omega (arith, waits, free))
@@ -120,7 +120,7 @@ module _ (s : List ℕ) (f : Fit s) where
   acted-view (sample t x) room h p =
       sampled-view s t x f h (not-false _ (p .carries)) (eqb-true (length x) (width t) (not-false _ (p .sized))) (p .ranged) (p .roomy)
   acted-view (poll c) room h p =
-      polled-view s c f (omega (arith, queue-length s, eqb-false (length (view s .queue)) 0 (p .waits)))
+      polled-view s c f (omega (arith, queue-length s, eqb-false (length (view s .streams .queue)) 0 (p .waits)))
   acted-view (status c low flags) room h p = (refl, f)
   acted-view (analogue x) room h p = (housed-view s f x h, housed-fit s f x h)
   acted-view faulty room h p = (refl, f)

@@ -29,21 +29,21 @@ use Rattle.paper.proofs.Refusals.{Clear, passed, refused-any}
 
 -- a controller d that is c with its queue left as q and packets ps queued behind it, one after the other
 pub record Queues (c d : Controller) (q : List (Piece (List ℕ))) (ps : List (ℕ × List ℕ)) : Type 0 where
-  pub queue : d .queue ≡ q ++ numberedAll wrap (c .counts) ps
-  pub counts : d .counts ≡ countsAfter wrap (c .counts) ps
+  pub queue : d .streams .queue ≡ q ++ numberedAll wrap (c .streams .counts) ps
+  pub counts : d .streams .counts ≡ countsAfter wrap (c .streams .counts) ps
 
 -- none
-queues-none : (c d : Controller) (q : List (Piece (List ℕ))) → d .queue ≡ q → d .counts ≡ c .counts → Queues c d q []
+queues-none : (c d : Controller) (q : List (Piece (List ℕ))) → d .streams .queue ≡ q → d .streams .counts ≡ c .streams .counts → Queues c d q []
 unfolding numberedAll countsAfter
 queues-none c d q e f = record { queue = e ∙ sym (append-nil q); counts = f }
 
 -- one, by the machine's own way to queue it; what else differs between b and c does not count
-queues-one : (c b : Controller) (s : ℕ) (x : List ℕ) → b .queue ≡ c .queue → b .counts ≡ c .counts
-    → Queues c (queued b s x) (c .queue) ((s, x) ∷ [])
+queues-one : (c b : Controller) (s : ℕ) (x : List ℕ) → b .streams .queue ≡ c .streams .queue → b .streams .counts ≡ c .streams .counts
+    → Queues c (queued b s x) (c .streams .queue) ((s, x) ∷ [])
 unfolding numberedAll countsAfter queued
 queues-one c b s x e f =
     record {
-      queue = rw (e, f) (ap (λ l. c .queue ++ l) (sym (append-nil _)));
+      queue = rw (e, f) (ap (λ l. c .streams .queue ++ l) (sym (append-nil _)));
       counts = ap (λ g. put g s (after wrap (g s) (cut (pieces s) x))) f;
     }
 
@@ -66,25 +66,25 @@ queues-moved c d q ps k = by (same mode (d .standing .mode))
     by true = k
     by false = queues-enter c d q ps mode (d .standing .locked) (seconds (d .clock .time)) k
 
-queues-completed : (c e : Controller) → e .queue ≡ c .queue → e .counts ≡ c .counts
-    → Queues c (completed e) (c .queue) ((acc-i, impactPacket (e .impact)) ∷ [])
+queues-completed : (c e : Controller) → e .streams .queue ≡ c .streams .queue → e .streams .counts ≡ c .streams .counts
+    → Queues c (completed e) (c .streams .queue) ((acc-i, impactPacket (e .impact)) ∷ [])
 unfolding completed
 queues-completed c e p q = by (e .standing .locked)
   where
     done : Controller
     done = queued (withImpact e (ended (e .impact))) acc-i (impactPacket (e .impact))
 
-    done-queues : Queues c done (c .queue) ((acc-i, impactPacket (e .impact)) ∷ [])
+    done-queues : Queues c done (c .streams .queue) ((acc-i, impactPacket (e .impact)) ∷ [])
     done-queues = queues-one c (withImpact e (ended (e .impact))) acc-i (impactPacket (e .impact)) p q
 
     by : (b : Bool)
-        → Queues c (cond b done (enter done surface false (secondsOf (e .impact .stamp .time)))) (c .queue)
+        → Queues c (cond b done (enter done surface false (secondsOf (e .impact .stamp .time)))) (c .streams .queue)
         ((acc-i, impactPacket (e .impact)) ∷ [])
     by true = done-queues
     by false = queues-enter c done _ _ surface false (secondsOf (e .impact .stamp .time)) done-queues
 
 queues-ticks : (c : Controller) (r : ℕ)
-    → Queues c (ticks c r) (c .queue) (onlyIf (completes c) (acc-i, impactPacket (taken (c .impact) r)))
+    → Queues c (ticks c r) (c .streams .queue) (onlyIf (completes c) (acc-i, impactPacket (taken (c .impact) r)))
 unfolding ticks ticked completes watching
 queues-ticks c r = by (inProximity c) (last (c .impact .collection))
   where
@@ -95,35 +95,35 @@ queues-ticks c r = by (inProximity c) (last (c .impact .collection))
     e = withImpact d (taken (c .impact) r)
 
     by : (b f : Bool)
-        → Queues c (cond b (cond (b && f) (completed e) (watching e)) d) (c .queue)
+        → Queues c (cond b (cond (b && f) (completed e) (watching e)) d) (c .streams .queue)
         (onlyIf (b && f) (acc-i, impactPacket (taken (c .impact) r)))
     by true true = queues-completed c e refl refl
-    by true false = queues-none c (watching e) (c .queue) refl refl
-    by false f = queues-none c d (c .queue) refl refl
+    by true false = queues-none c (watching e) (c .streams .queue) refl refl
+    by false f = queues-none c d (c .streams .queue) refl refl
 
 queues-sampled : (c : Controller) (s : ℕ) (x : List ℕ)
-    → Queues c (sampled c s x) (c .queue) (onlyIf (closes c s) (s, fullPacket c s x))
+    → Queues c (sampled c s x) (c .streams .queue) (onlyIf (closes c s) (s, fullPacket c s x))
 unfolding sampled closed extended fullPacket
 queues-sampled c s x = by (closes c s)
   where
     o : Open
-    o = joinedBy (c .opened s) (stampNow c s) x
+    o = joinedBy (c .streams .opened s) (stampNow c s) x
 
-    by : (b : Bool) → Queues c (cond b (closed c s o) (extended c s o)) (c .queue) (onlyIf b (s, fullPacket c s x))
+    by : (b : Bool) → Queues c (cond b (closed c s o) (extended c s o)) (c .streams .queue) (onlyIf b (s, fullPacket c s x))
     by true = queues-one c _ s _ refl refl
-    by false = queues-none c (extended c s o) (c .queue) refl refl
+    by false = queues-none c (extended c s o) (c .streams .queue) refl refl
 
-queues-performed : (c b : Controller) (d : Decoded) → b .queue ≡ c .queue → b .counts ≡ c .counts
-    → Queues c (performed b d) (leaves (clears d) (c .queue)) (onlyIf (queues d) (hk, housekeepingPacket b))
+queues-performed : (c b : Controller) (d : Decoded) → b .streams .queue ≡ c .streams .queue → b .streams .counts ≡ c .streams .counts
+    → Queues c (performed b d) (leaves (clears d) (c .streams .queue)) (onlyIf (queues d) (hk, housekeepingPacket b))
 unfolding performed obeyed cleared commanded
 queues-performed c b (request (clear mask)) e f = queues-none c (cleared b mask) _ (ap (without (names mask)) e) f
 queues-performed c b (request housekeeping) e f = queues-one c b hk (housekeepingPacket b) e f
 queues-performed c b (request (setMode value)) e f =
-    queues-enter c (withImpact b (ended (b .impact))) (c .queue) [] (modeOf (value % 8)) (leb 8 value) (seconds (b .clock .time))
-    (queues-none c (withImpact b (ended (b .impact))) (c .queue) e f)
-queues-performed c b (refusal n) e f = queues-none c b (c .queue) e f
+    queues-enter c (withImpact b (ended (b .impact))) (c .streams .queue) [] (modeOf (value % 8)) (leb 8 value) (seconds (b .clock .time))
+    (queues-none c (withImpact b (ended (b .impact))) (c .streams .queue) e f)
+queues-performed c b (refusal n) e f = queues-none c b (c .streams .queue) e f
 
-queues-polled : (c : Controller) (cc : Channel) (q : List (Piece (List ℕ))) → c .queue ≡ q
+queues-polled : (c : Controller) (cc : Channel) (q : List (Piece (List ℕ))) → c .streams .queue ≡ q
     → Queues c (polledFrom c cc q) (drop 1 q) []
 unfolding polledFrom polled
 queues-polled c cc [] e = queues-none c c [] e refl
@@ -131,47 +131,47 @@ queues-polled c cc (p ∷ rest) e = queues-none c (polled c cc rest) rest refl r
 
 -- The law that ties `sent` to the machine: an accepted frame leaves of the queue what it spares, and behind that the packets
 -- that it sends, queued one after the other; counts move on by those packets alone, so "cleared pieces have used theirs".
-pub queues-accepted : (c : Controller) (f : Frame) → Queues c (accepted c f) (stillWaiting f (c .queue)) (sent c f)
+pub queues-accepted : (c : Controller) (f : Frame) → Queues c (accepted c f) (stillWaiting f (c .streams .queue)) (sent c f)
 unfolding accepted heard noted sent
 queues-accepted c (broadcast cc time altitude spin phase) =
-    queues-moved c (heard c cc time altitude spin phase) (c .queue) []
-    (queues-none c (heard c cc time altitude spin phase) (c .queue) refl refl)
+    queues-moved c (heard c cc time altitude spin phase) (c .streams .queue) []
+    (queues-none c (heard c cc time altitude spin phase) (c .streams .queue) refl refl)
 queues-accepted c (command cc id sequence parameters) =
     queues-performed c (noted c cc id sequence) (decoded id parameters) refl refl
 queues-accepted c (tick r) = queues-ticks c r
 queues-accepted c (sample s x) = queues-sampled c s x
-queues-accepted c (poll cc) = queues-polled c cc (c .queue) refl
-queues-accepted c (status cc low flags) = queues-none c c (c .queue) refl refl
-queues-accepted c (analogue bytes) = queues-none c (accepted c (analogue bytes)) (c .queue) refl refl
-queues-accepted c faulty = queues-none c c (c .queue) refl refl
+queues-accepted c (poll cc) = queues-polled c cc (c .streams .queue) refl
+queues-accepted c (status cc low flags) = queues-none c c (c .streams .queue) refl refl
+queues-accepted c (analogue bytes) = queues-none c (accepted c (analogue bytes)) (c .streams .queue) refl refl
+queues-accepted c faulty = queues-none c c (c .streams .queue) refl refl
 
 -- a poll: the first piece is gone
-pub poll-queue : (c : Controller) (cc : Channel) → accepted c (poll cc) .queue ≡ drop 1 (c .queue)
+pub poll-queue : (c : Controller) (cc : Channel) → accepted c (poll cc) .streams .queue ≡ drop 1 (c .streams .queue)
 unfolding numberedAll sent
 poll-queue c cc = queues-accepted c (poll cc) .queue ∙ append-nil _
 
-pub poll-counts : (c : Controller) (cc : Channel) → accepted c (poll cc) .counts ≡ c .counts
+pub poll-counts : (c : Controller) (cc : Channel) → accepted c (poll cc) .streams .counts ≡ c .streams .counts
 unfolding countsAfter sent
 poll-counts c cc = queues-accepted c (poll cc) .counts
 
 -- a clear: "waiting pieces of named streams go, the rest keep their order", "cleared pieces have used theirs"
 pub clear-queue : (c : Controller) (cc : Channel) (id sequence mask : ℕ) (parameters : List ℕ)
     → decoded id parameters ≡ request (clear mask)
-    → accepted c (command cc id sequence parameters) .queue ≡ without (names mask) (c .queue)
+    → accepted c (command cc id sequence parameters) .streams .queue ≡ without (names mask) (c .streams .queue)
 unfolding accepted performed obeyed cleared noted
 clear-queue c cc id sequence mask parameters e = rw e
 
 pub clear-counts : (c : Controller) (cc : Channel) (id sequence mask : ℕ) (parameters : List ℕ)
-    → decoded id parameters ≡ request (clear mask) → accepted c (command cc id sequence parameters) .counts ≡ c .counts
+    → decoded id parameters ≡ request (clear mask) → accepted c (command cc id sequence parameters) .streams .counts ≡ c .streams .counts
 unfolding accepted performed obeyed cleared noted
 clear-counts c cc id sequence mask parameters e = rw e
 
 -- a refusal queues nothing and takes nothing away
-pub queues-refused : (n : ℕ) (f : Frame) (c : Controller) → Queues c (refused n f c) (c .queue) []
+pub queues-refused : (n : ℕ) (f : Frame) (c : Controller) → Queues c (refused n f c) (c .streams .queue) []
 unfolding lateHeard erred
 queues-refused n f c =
-    refused-any (λ d. Queues c d (c .queue) []) n f c (queues-none c c (c .queue) refl refl)
-    (λ cc. queues-none c (lateHeard c cc) (c .queue) refl refl) (λ cc m. queues-none c (erred c cc m) (c .queue) refl refl)
+    refused-any (λ d. Queues c d (c .streams .queue) []) n f c (queues-none c c (c .streams .queue) refl refl)
+    (λ cc. queues-none c (lateHeard c cc) (c .streams .queue) refl refl) (λ cc m. queues-none c (erred c cc m) (c .streams .queue) refl refl)
 
 -- the law of a call
 pub queues-step : (c : Controller) (x : Call) → Queues c (step c (x .bytes) (x .room) .next) (stillWaitingAt c x) (sentAt c x)
@@ -185,7 +185,7 @@ queues-step c x = by (reply (holds c) f (x .room)) (eqb (reply (holds c) f (x .r
     o b n = cond b (outcome 0 (answer c f) (accepted c f)) (outcome n [] (refused n f c))
 
     by : (n : ℕ) (b : Bool) → eqb n 0 ≡ b
-        → Queues c (o b n .next) (cond (isAccepted (o b n .reply)) (stillWaiting f (c .queue)) (c .queue))
+        → Queues c (o b n .next) (cond (isAccepted (o b n .reply)) (stillWaiting f (c .streams .queue)) (c .streams .queue))
         (cond (isAccepted (o b n .reply)) (sent c f) [])
     by n true e = queues-accepted c f
     by n false e = rw e (queues-refused n f c)
@@ -264,7 +264,7 @@ unfolding sampled closed extended queued
 tallies-sampled c s x = by (closes c s)
   where
     o : Open
-    o = joinedBy (c .opened s) (stampNow c s) x
+    o = joinedBy (c .streams .opened s) (stampNow c s) x
 
     by : (b : Bool) → cond b (closed c s o) (extended c s o) .tallies ≡ c .tallies
     by true = refl
@@ -316,7 +316,7 @@ adds-accepted c (command dd id sequence parameters) h =
     })
 adds-accepted c (tick r) h = rw (tallies-ticks c r) (adds-none 0 (c .tallies))
 adds-accepted c (sample s x) h = rw (tallies-sampled c s x) (adds-none 0 (c .tallies))
-adds-accepted c (poll cc) h = adds-polled c cc (c .queue) h
+adds-accepted c (poll cc) h = adds-polled c cc (c .streams .queue) h
 adds-accepted c (status cc low flags) h = adds-none 0 (c .tallies)
 adds-accepted c (analogue bytes) h = adds-none 0 (c .tallies)
 adds-accepted c faulty h = adds-none 0 (c .tallies)
@@ -453,7 +453,7 @@ counted-step c x h ps k =
       streams =
           λ t.
           ap (λ g. g t) (queues-step c x .counts)
-          ∙ counts-after (sentAt c x) (c .counts) t (piecesOf t ps) (k .streams t)
+          ∙ counts-after (sentAt c x) (c .streams .counts) t (piecesOf t ps) (k .streams t)
           ∙ rw (pieces-append t ps (sentAt c x));
     }
   where

@@ -106,7 +106,7 @@ errorsIn = howMany raisesErrors
 -- The sample with which an open packet is full closes it: its datastream packet.
 unfoldable pub fullPacket : Controller → ℕ → List ℕ → List ℕ
 fullPacket c s x =
-    let o : Open = joinedBy (c .opened s) (stampNow c s) x in
+    let o : Open = joinedBy (c .streams .opened s) (stampNow c s) x in
     datastream (o .stamp) (dataOf s (o .samples))
 
 abbrev pub onlyIf : Bool → ℕ × List ℕ → List (ℕ × List ℕ)
@@ -148,7 +148,7 @@ pub record Counted (c : Controller) (h : List (Frame × ℕ)) (ps : List (ℕ ×
   pub telemetry : (cc : Channel) → at cc (c .tallies .telemetry) ≡ pollsOn cc h % 65536
   pub commands : c .tallies .commands ≡ commandsIn h % 65536
   pub errors : c .tallies .errors ≡ errorsIn h % 256
-  pub streams : (t : ℕ) → c .counts t ≡ piecesOf t ps % 4096
+  pub streams : (t : ℕ) → c .streams .counts t ≡ piecesOf t ps % 4096
 
 -- ---- what they do to queue and counts
 
@@ -203,4 +203,4 @@ unfoldable pub sparedAt : Controller → Call → List (Piece (List ℕ)) → Li
 sparedAt c x q = cond (isAccepted (step c (x .bytes) (x .room) .reply)) (stillWaiting (frameOf (x .bytes)) q) q
 
 unfoldable pub stillWaitingAt : Controller → Call → List (Piece (List ℕ))
-stillWaitingAt c x = sparedAt c x (c .queue)
+stillWaitingAt c x = sparedAt c x (c .streams .queue)

@@ -13,14 +13,14 @@ use Rattle.paper.specs.Commands.{Request, clear, housekeeping, setMode, 
 use Rattle.paper.specs.Streams.{acc-i, den, hk, pieces, width, takenIn}
 use Rattle.paper.specs.Streams as table
 use Rattle.paper.specs.Queue.{free}
-use Rattle.paper.specs.Controller.{raisedAt, raised8, Controller, withTallies}
+use Rattle.paper.specs.Controller.{raisedAt, raised8, Tallies, withBroadcasts, withPackets, withError, Controller, withTallies}
 use Rattle.paper.specs.Acts.{completes, closes, accepted, answer}
 
 -- ---- when each reply is given
 
 -- "7: too few free queue slots"
 abbrev pub crowded : Controller → ℕ → Bool
-crowded c s = ltb (free (c .queue)) (pieces s)
+crowded c s = ltb (free (c .streams .queue)) (pieces s)
 
 abbrev pub queues : Decoded → Bool
 queues (request (clear mask)) = false
@@ -55,7 +55,7 @@ grounds c (sample s x) =
     ∷ (6, not (takenIn s (c .standing .mode)))
     ∷ (7, closes c s && crowded c s)
     ∷ []
-grounds c (poll cc) = (9, eqb (length (c .queue)) 0) ∷ []
+grounds c (poll cc) = (9, eqb (length (c .streams .queue)) 0) ∷ []
 grounds c (status cc low flags) = []
 grounds c (analogue bytes) = []
 grounds c faulty = (1, true) ∷ []
@@ -102,34 +102,14 @@ reply l f room = first (tests l f room)
 
 -- "A broadcast refused with 5 raises only its channel's broadcast count."
 unfoldable pub lateHeard : Controller → Channel → Controller
-lateHeard c cc =
-    withTallies c
-    (record {
-      broadcasts = raisedAt cc (c .tallies .broadcasts);
-      packets = c .tallies .packets;
-      telemetry = c .tallies .telemetry;
-      commands = c .tallies .commands;
-      errors = c .tallies .errors;
-      code = c .tallies .code;
-      sequence = c .tallies .sequence;
-      id = c .tallies .id;
-    })
+lateHeard c cc = withTallies c (withBroadcasts (c .tallies) (raisedAt cc (c .tallies .broadcasts)))
 
 -- "A command refused with 2, 3, 4 or 7 raises its channel's command packet count and the error count and sets the error code
 -- to the reply number."
 unfoldable pub erred : Controller → Channel → ℕ → Controller
 erred c cc n =
-    withTallies c
-    (record {
-      broadcasts = c .tallies .broadcasts;
-      packets = raisedAt cc (c .tallies .packets);
-      telemetry = c .tallies .telemetry;
-      commands = c .tallies .commands;
-      errors = raised8 (c .tallies .errors);
-      code = n;
-      sequence = c .tallies .sequence;
-      id = c .tallies .id;
-    })
+    let t : Tallies = withPackets (c .tallies) (raisedAt cc (c .tallies .packets)) in
+    withTallies c (withError t (raised8 (c .tallies .errors)) n)
 
 abbrev pub isError : ℕ → Bool
 isError n = eqb n 2 || (eqb n 3 || (eqb n 4 || eqb n 7))
