@@ -25,7 +25,7 @@ use Rattle.paper.specs.Acts.{completes, taken, impactPacket, joinedBy, closes, 
 use Rattle.paper.specs.Step.{holds, queues, reply, replied, step}
 use Rattle.paper.specs.Reader.{packet, packetOf}
 use Rattle.paper.specs.Runs.{Call, runs}
-use Rattle.paper.specs.History.{isAccepted, fullPacket, onlyIf, sent, sentAt, sentBy, countsAfter, numberedAll, Takes, nothing, theFirst, named, takes, leaves, stillWaiting, sparedAt, stillWaitingAt}
+use Rattle.paper.specs.History.{isAccepted, fullPacket, onlyIf, sent, sentAt, sentBy, countsAfter, numberedAll, Takes, nothing, theFirst, named, leaves, takesAt}
 use Rattle.paper.proofs.Packets.{length-pack}
 use Rattle.paper.proofs.All.{All, all-append, all-drop, all-without}
 use Rattle.paper.proofs.Table.{row-stream, rule, sampled-carried}
@@ -197,20 +197,15 @@ unfolding start
 waits-start = record { ready = tt; below = λ s. omega arith }
 
 pub waits-step : (c : Controller) (x : Call) → Sizes c → Waits c → Waits (step c (x .bytes) (x .room) .next)
-unfolding sparedAt stillWaitingAt
 waits-step c x k w =
     let q = queues-step c x in
     record {
       ready =
           subst Readies (sym (q .queue))
-          (all-append _ (stillWaitingAt c x) _ (by (isAccepted (step c (x .bytes) (x .room) .reply)))
-          (ready-all (sentAt c x) (c .streams .counts) (sent-step c x k) (w .below)));
+          (ready-leaves (takesAt c x) _
+          (all-append _ (c .streams .queue) _ (w .ready) (ready-all (sentAt c x) (c .streams .counts) (sent-step c x k) (w .below))));
       below = subst Below (sym (q .counts)) (counts-below (sentAt c x) (c .streams .counts) (w .below));
     }
-  where
-    by : (b : Bool) → Readies (cond b (stillWaiting (frameOf (x .bytes)) (c .streams .queue)) (c .streams .queue))
-    by true = ready-leaves (takes (frameOf (x .bytes))) (c .streams .queue) (w .ready)
-    by false = w .ready
 
 pub waits-runs : (xs : List Call) (c : Controller) → Sizes c → Waits c → Waits (runs c xs)
 unfolding runs

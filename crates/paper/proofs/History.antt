@@ -22,24 +22,25 @@ use Rattle.paper.specs.Housekeeping.{housekeepingPacket}
 use Rattle.paper.specs.Acts.{enter, heard, moved, counted as ticked, inProximity, last, completes, taken, watching, ended, impactPacket, completed, ticks, joinedBy, closes, closed, extended, sampled, noted, cleared, commanded, obeyed, polled, performed, polledFrom, accepted, answer}
 use Rattle.paper.specs.Step.{holds, queues, reply, lateHeard, erred, isError, Count, ofBroadcasts, ofCommands, ofPolls, ofNone, countOf, unchanged, lateOn, errorOn, change, changed, refused, Outcome, outcome, replied, step}
 use Rattle.paper.specs.Runs.{Call, runs}
-use Rattle.paper.specs.History.{Counted, history, howMany, sameChannel, broadcastsOn, packetsOn, commandsIn, pollsOn, errorsIn, isAccepted, raisesBroadcasts, raisesPackets, raisesCommands, raisesTelemetry, raisesErrors, fullPacket, onlyIf, sent, sentAt, sentBy, piecesOf, countsAfter, numberedAll, clears, leaves, stillWaiting, sparedAt, stillWaitingAt}
+use Rattle.paper.specs.History.{Counted, history, howMany, sameChannel, broadcastsOn, packetsOn, commandsIn, pollsOn, errorsIn, isAccepted, raisesBroadcasts, raisesPackets, raisesCommands, raisesTelemetry, raisesErrors, fullPacket, onlyIf, sent, sentAt, sentBy, piecesOf, countsAfter, numberedAll, Takes, nothing, theFirst, named, clears, takes, leaves, takesAt}
 use Rattle.paper.proofs.Refusals.{Clear, passed, refused-any}
 
 -- ---- what packets do to queue and counts
 
--- a controller d that is c with its queue left as q and packets ps queued behind it, one after the other
-pub record Queues (c d : Controller) (q : List (Piece (List ℕ))) (ps : List (ℕ × List ℕ)) : Type 0 where
-  pub queue : d .streams .queue ≡ q ++ numberedAll wrap (c .streams .counts) ps
+-- A controller d that is c after packets ps were queued, one after the other, and then what t takes was taken.
+pub record Queues (c d : Controller) (t : Takes) (ps : List (ℕ × List ℕ)) : Type 0 where
+  pub queue : d .streams .queue ≡ leaves t (c .streams .queue ++ numberedAll wrap (c .streams .counts) ps)
   pub counts : d .streams .counts ≡ countsAfter wrap (c .streams .counts) ps
 
--- none
-queues-none : (c d : Controller) (q : List (Piece (List ℕ))) → d .streams .queue ≡ q → d .streams .counts ≡ c .streams .counts → Queues c d q []
+-- none queued
+queues-none : (c d : Controller) (t : Takes) → d .streams .queue ≡ leaves t (c .streams .queue)
+    → d .streams .counts ≡ c .streams .counts → Queues c d t []
 unfolding numberedAll countsAfter
-queues-none c d q e f = record { queue = e ∙ sym (append-nil q); counts = f }
+queues-none c d t e f = record { queue = e ∙ ap (leaves t) (sym (append-nil (c .streams .queue))); counts = f }
 
 -- one, by the machine's own way to queue it; what else differs between b and c does not count
-queues-one : (c b : Controller) (s : ℕ) (x : List ℕ) → b .streams .queue ≡ c .streams .queue → b .streams .counts ≡ c .streams .counts
-    → Queues c (queued b s x) (c .streams .queue) ((s, x) ∷ [])
+queues-one : (c b : Controller) (s : ℕ) (x : List ℕ) → b .streams .queue ≡ c .streams .queue
+    → b .streams .counts ≡ c .streams .counts → Queues c (queued b s x) nothing ((s, x) ∷ [])
 unfolding numberedAll countsAfter queued
 queues-one c b s x e f =
     record {
@@ -48,43 +49,43 @@ queues-one c b s x e f =
     }
 
 -- an entry queues nothing
-queues-enter : (c d : Controller) (q : List (Piece (List ℕ))) (ps : List (ℕ × List ℕ)) (mode : Mode) (locked : Bool) (reference : ℕ)
-    → Queues c d q ps → Queues c (enter d mode locked reference) q ps
+queues-enter : (c d : Controller) (t : Takes) (ps : List (ℕ × List ℕ)) (mode : Mode) (locked : Bool) (reference : ℕ)
+    → Queues c d t ps → Queues c (enter d mode locked reference) t ps
 unfolding enter
-queues-enter c d q ps mode locked reference k = record { queue = k .queue; counts = k .counts }
+queues-enter c d t ps mode locked reference k = record { queue = k .queue; counts = k .counts }
 
-queues-moved : (c d : Controller) (q : List (Piece (List ℕ))) (ps : List (ℕ × List ℕ)) → Queues c d q ps → Queues c (moved d) q ps
+queues-moved : (c d : Controller) (t : Takes) (ps : List (ℕ × List ℕ)) → Queues c d t ps → Queues c (moved d) t ps
 unfolding moved
-queues-moved c d q ps k = by (same mode (d .standing .mode))
+queues-moved c d t ps k = by (same mode (d .standing .mode))
   where
     mode : Mode
     mode =
         ruled (d .standing)
         (record { t = seconds (d .clock .time); altitude = d .clock .altitude; collecting = collects (d .impact .collection) })
 
-    by : (b : Bool) → Queues c (cond b d (enter d mode (d .standing .locked) (seconds (d .clock .time)))) q ps
+    by : (b : Bool) → Queues c (cond b d (enter d mode (d .standing .locked) (seconds (d .clock .time)))) t ps
     by true = k
-    by false = queues-enter c d q ps mode (d .standing .locked) (seconds (d .clock .time)) k
+    by false = queues-enter c d t ps mode (d .standing .locked) (seconds (d .clock .time)) k
 
 queues-completed : (c e : Controller) → e .streams .queue ≡ c .streams .queue → e .streams .counts ≡ c .streams .counts
-    → Queues c (completed e) (c .streams .queue) ((acc-i, impactPacket (e .impact)) ∷ [])
+    → Queues c (completed e) nothing ((acc-i, impactPacket (e .impact)) ∷ [])
 unfolding completed
 queues-completed c e p q = by (e .standing .locked)
   where
     done : Controller
     done = queued (withImpact e (ended (e .impact))) acc-i (impactPacket (e .impact))
 
-    done-queues : Queues c done (c .streams .queue) ((acc-i, impactPacket (e .impact)) ∷ [])
+    done-queues : Queues c done nothing ((acc-i, impactPacket (e .impact)) ∷ [])
     done-queues = queues-one c (withImpact e (ended (e .impact))) acc-i (impactPacket (e .impact)) p q
 
     by : (b : Bool)
-        → Queues c (cond b done (enter done surface false (secondsOf (e .impact .stamp .time)))) (c .streams .queue)
+        → Queues c (cond b done (enter done surface false (secondsOf (e .impact .stamp .time)))) nothing
         ((acc-i, impactPacket (e .impact)) ∷ [])
     by true = done-queues
-    by false = queues-enter c done _ _ surface false (secondsOf (e .impact .stamp .time)) done-queues
+    by false = queues-enter c done nothing _ surface false (secondsOf (e .impact .stamp .time)) done-queues
 
 queues-ticks : (c : Controller) (r : ℕ)
-    → Queues c (ticks c r) (c .streams .queue) (onlyIf (completes c) (acc-i, impactPacket (taken (c .impact) r)))
+    → Queues c (ticks c r) nothing (onlyIf (completes c) (acc-i, impactPacket (taken (c .impact) r)))
 unfolding ticks ticked completes watching
 queues-ticks c r = by (inProximity c) (last (c .impact .collection))
   where
@@ -95,60 +96,60 @@ queues-ticks c r = by (inProximity c) (last (c .impact .collection))
     e = withImpact d (taken (c .impact) r)
 
     by : (b f : Bool)
-        → Queues c (cond b (cond (b && f) (completed e) (watching e)) d) (c .streams .queue)
+        → Queues c (cond b (cond (b && f) (completed e) (watching e)) d) nothing
         (onlyIf (b && f) (acc-i, impactPacket (taken (c .impact) r)))
     by true true = queues-completed c e refl refl
-    by true false = queues-none c (watching e) (c .streams .queue) refl refl
-    by false f = queues-none c d (c .streams .queue) refl refl
+    by true false = queues-none c (watching e) nothing refl refl
+    by false f = queues-none c d nothing refl refl
 
 queues-sampled : (c : Controller) (s : ℕ) (x : List ℕ)
-    → Queues c (sampled c s x) (c .streams .queue) (onlyIf (closes c s) (s, fullPacket c s x))
+    → Queues c (sampled c s x) nothing (onlyIf (closes c s) (s, fullPacket c s x))
 unfolding sampled closed extended fullPacket
 queues-sampled c s x = by (closes c s)
   where
     o : Open
     o = joinedBy (c .streams .opened s) (stampNow c s) x
 
-    by : (b : Bool) → Queues c (cond b (closed c s o) (extended c s o)) (c .streams .queue) (onlyIf b (s, fullPacket c s x))
+    by : (b : Bool) → Queues c (cond b (closed c s o) (extended c s o)) nothing (onlyIf b (s, fullPacket c s x))
     by true = queues-one c _ s _ refl refl
-    by false = queues-none c (extended c s o) (c .streams .queue) refl refl
+    by false = queues-none c (extended c s o) nothing refl refl
 
 queues-performed : (c b : Controller) (d : Decoded) → b .streams .queue ≡ c .streams .queue → b .streams .counts ≡ c .streams .counts
-    → Queues c (performed b d) (leaves (clears d) (c .streams .queue)) (onlyIf (queues d) (hk, housekeepingPacket b))
+    → Queues c (performed b d) (clears d) (onlyIf (queues d) (hk, housekeepingPacket b))
 unfolding performed obeyed cleared commanded
-queues-performed c b (request (clear mask)) e f = queues-none c (cleared b mask) _ (ap (without (names mask)) e) f
+queues-performed c b (request (clear mask)) e f = queues-none c (cleared b mask) (named mask) (ap (without (names mask)) e) f
 queues-performed c b (request housekeeping) e f = queues-one c b hk (housekeepingPacket b) e f
 queues-performed c b (request (setMode value)) e f =
-    queues-enter c (withImpact b (ended (b .impact))) (c .streams .queue) [] (modeOf (value % 8)) (leb 8 value) (seconds (b .clock .time))
-    (queues-none c (withImpact b (ended (b .impact))) (c .streams .queue) e f)
-queues-performed c b (refusal n) e f = queues-none c b (c .streams .queue) e f
+    queues-enter c (withImpact b (ended (b .impact))) nothing [] (modeOf (value % 8)) (leb 8 value) (seconds (b .clock .time))
+    (queues-none c (withImpact b (ended (b .impact))) nothing e f)
+queues-performed c b (refusal n) e f = queues-none c b nothing e f
 
 queues-polled : (c : Controller) (cc : Channel) (q : List (Piece (List ℕ))) → c .streams .queue ≡ q
-    → Queues c (polledFrom c cc q) (drop 1 q) []
+    → Queues c (polledFrom c cc q) theFirst []
 unfolding polledFrom polled
-queues-polled c cc [] e = queues-none c c [] e refl
-queues-polled c cc (p ∷ rest) e = queues-none c (polled c cc rest) rest refl refl
+queues-polled c cc [] e = queues-none c c theFirst (e ∙ sym (ap (drop 1) e)) refl
+queues-polled c cc (p ∷ rest) e = queues-none c (polled c cc rest) theFirst (sym (ap (drop 1) e)) refl
 
--- The law that ties `sent` to the machine: an accepted frame leaves of the queue what it spares, and behind that the packets
--- that it sends, queued one after the other; counts move on by those packets alone, so "cleared pieces have used theirs".
-pub queues-accepted : (c : Controller) (f : Frame) → Queues c (accepted c f) (stillWaiting f (c .streams .queue)) (sent c f)
+-- The law that ties `sent` and `takes` to the machine: an accepted frame leaves of the queue, with the packets behind it that it
+-- sends, what it does not take; counts move on by those packets alone, so "cleared pieces have used theirs".
+pub queues-accepted : (c : Controller) (f : Frame) → Queues c (accepted c f) (takes f) (sent c f)
 unfolding accepted heard noted sent
 queues-accepted c (broadcast cc time altitude spin phase) =
-    queues-moved c (heard c cc time altitude spin phase) (c .streams .queue) []
-    (queues-none c (heard c cc time altitude spin phase) (c .streams .queue) refl refl)
+    queues-moved c (heard c cc time altitude spin phase) nothing []
+    (queues-none c (heard c cc time altitude spin phase) nothing refl refl)
 queues-accepted c (command cc id sequence parameters) =
     queues-performed c (noted c cc id sequence) (decoded id parameters) refl refl
 queues-accepted c (tick r) = queues-ticks c r
 queues-accepted c (sample s x) = queues-sampled c s x
 queues-accepted c (poll cc) = queues-polled c cc (c .streams .queue) refl
-queues-accepted c (status cc low flags) = queues-none c c (c .streams .queue) refl refl
-queues-accepted c (analogue bytes) = queues-none c (accepted c (analogue bytes)) (c .streams .queue) refl refl
-queues-accepted c faulty = queues-none c c (c .streams .queue) refl refl
+queues-accepted c (status cc low flags) = queues-none c c nothing refl refl
+queues-accepted c (analogue bytes) = queues-none c (accepted c (analogue bytes)) nothing refl refl
+queues-accepted c faulty = queues-none c c nothing refl refl
 
 -- a poll: the first piece is gone
 pub poll-queue : (c : Controller) (cc : Channel) → accepted c (poll cc) .streams .queue ≡ drop 1 (c .streams .queue)
 unfolding numberedAll sent
-poll-queue c cc = queues-accepted c (poll cc) .queue ∙ append-nil _
+poll-queue c cc = queues-accepted c (poll cc) .queue ∙ ap (drop 1) (append-nil (c .streams .queue))
 
 pub poll-counts : (c : Controller) (cc : Channel) → accepted c (poll cc) .streams .counts ≡ c .streams .counts
 unfolding countsAfter sent
@@ -162,20 +163,21 @@ unfolding accepted performed obeyed cleared noted
 clear-queue c cc id sequence mask parameters e = rw e
 
 pub clear-counts : (c : Controller) (cc : Channel) (id sequence mask : ℕ) (parameters : List ℕ)
-    → decoded id parameters ≡ request (clear mask) → accepted c (command cc id sequence parameters) .streams .counts ≡ c .streams .counts
+    → decoded id parameters ≡ request (clear mask)
+    → accepted c (command cc id sequence parameters) .streams .counts ≡ c .streams .counts
 unfolding accepted performed obeyed cleared noted
 clear-counts c cc id sequence mask parameters e = rw e
 
 -- a refusal queues nothing and takes nothing away
-pub queues-refused : (n : ℕ) (f : Frame) (c : Controller) → Queues c (refused n f c) (c .streams .queue) []
+pub queues-refused : (n : ℕ) (f : Frame) (c : Controller) → Queues c (refused n f c) nothing []
 unfolding lateHeard erred
 queues-refused n f c =
-    refused-any (λ d. Queues c d (c .streams .queue) []) n f c (queues-none c c (c .streams .queue) refl refl)
-    (λ cc. queues-none c (lateHeard c cc) (c .streams .queue) refl refl) (λ cc m. queues-none c (erred c cc m) (c .streams .queue) refl refl)
+    refused-any (λ d. Queues c d nothing []) n f c (queues-none c c nothing refl refl)
+    (λ cc. queues-none c (lateHeard c cc) nothing refl refl) (λ cc m. queues-none c (erred c cc m) nothing refl refl)
 
 -- the law of a call
-pub queues-step : (c : Controller) (x : Call) → Queues c (step c (x .bytes) (x .room) .next) (stillWaitingAt c x) (sentAt c x)
-unfolding step replied sparedAt stillWaitingAt sentAt
+pub queues-step : (c : Controller) (x : Call) → Queues c (step c (x .bytes) (x .room) .next) (takesAt c x) (sentAt c x)
+unfolding step replied takesAt sentAt
 queues-step c x = by (reply (holds c) f (x .room)) (eqb (reply (holds c) f (x .room)) 0) refl
   where
     f : Frame
@@ -185,8 +187,7 @@ queues-step c x = by (reply (holds c) f (x .room)) (eqb (reply (holds c) f (x .r
     o b n = cond b (outcome 0 (answer c f) (accepted c f)) (outcome n [] (refused n f c))
 
     by : (n : ℕ) (b : Bool) → eqb n 0 ≡ b
-        → Queues c (o b n .next) (cond (isAccepted (o b n .reply)) (stillWaiting f (c .streams .queue)) (c .streams .queue))
-        (cond (isAccepted (o b n .reply)) (sent c f) [])
+        → Queues c (o b n .next) (cond (isAccepted (o b n .reply)) (takes f) nothing) (cond (isAccepted (o b n .reply)) (sent c f) [])
     by n true e = queues-accepted c f
     by n false e = rw e (queues-refused n f c)
 

@@ -150,7 +150,7 @@ pub record Counted (c : Controller) (h : List (Frame × ℕ)) (ps : List (ℕ ×
   pub errors : c .tallies .errors ≡ errorsIn h % 256
   pub streams : (t : ℕ) → c .streams .counts t ≡ piecesOf t ps % 4096
 
--- ---- what they do to queue and counts
+-- ---- what they do to queue and counts: an accepted frame queues, then takes
 
 -- "Each piece takes its stream's count when queued": the pieces of packets that are queued one after the other, numbered from the
 -- streams' counts on, and the counts that follow. How a number goes on is a parameter, as it is of `numbered`.
@@ -167,7 +167,8 @@ numberedAll on counts (p ∷ ps) =
     numbered on s (counts s) (cut (pieces s) (p .1))
     ++ numberedAll on (put counts s (after on (counts s) (cut (pieces s) (p .1)))) ps
 
--- What an accepted frame takes of the pieces that wait: none; the first, by a poll; "waiting pieces of named streams go".
+-- What an accepted frame takes of the pieces that wait, its own among them: none; the first, by a poll; "waiting pieces of named
+-- streams go".
 pub data Takes : Type 0 where
   nothing : Takes
   theFirst : Takes
@@ -195,12 +196,6 @@ leaves nothing q = q
 leaves theFirst q = drop 1 q
 leaves (named mask) q = without (names mask) q
 
-abbrev pub stillWaiting : Frame → List (Piece (List ℕ)) → List (Piece (List ℕ))
-stillWaiting f q = leaves (takes f) q
-
--- the same of a call: a refused one leaves the queue as it is
-unfoldable pub sparedAt : Controller → Call → List (Piece (List ℕ)) → List (Piece (List ℕ))
-sparedAt c x q = cond (isAccepted (step c (x .bytes) (x .room) .reply)) (stillWaiting (frameOf (x .bytes)) q) q
-
-unfoldable pub stillWaitingAt : Controller → Call → List (Piece (List ℕ))
-stillWaitingAt c x = sparedAt c x (c .streams .queue)
+-- what one call takes: a refused one, nothing
+unfoldable pub takesAt : Controller → Call → Takes
+takesAt c x = cond (isAccepted (step c (x .bytes) (x .room) .reply)) (takes (frameOf (x .bytes))) nothing
