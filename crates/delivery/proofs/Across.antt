@@ -19,7 +19,7 @@ use Rattle.paper.specs.Acts.{emptied, enter, joinedBy, closed, sampled, noted, 
 use Rattle.paper.specs.Step.{reply, refused, replied, step}
 use Rattle.paper.specs.Reader.{arrive, wellFormed, packetOf, sound, readerStart, received, understood, readerStep}
 use Rattle.paper.specs.Runs.{Call, call, readings}
-use Rattle.paper.specs.History.{fullPacket, sent, sentAt, sentBy, countsAfter, numberedAll, sparedAt}
+use Rattle.paper.specs.History.{fullPacket, sent, sentAt, sentBy, countsAfter, numberedAll, takesAt}
 use Rattle.delivery.specs.Demands.{numbersAfter, takenAt, polledFrom, polled, polledOf, Arrival, own, ownOf, Comes, handedOut, handsOut, complete, arrivedWhole}
 use Rattle.delivery.proofs.Way.{chosen-all}
 use Rattle.delivery.proofs.Sharp.{to5, sample, poll, given}
@@ -46,7 +46,7 @@ other : {A : Type 0} → false ≡ true → A
 other e = absurd (false≢true e)
 
 pub across : Across
-unfolding polledOf ownOf complete handedOut arrive wellFormed packetOf sound readerStart received understood readerStep readings housekeepingData housekeepingPacket onChannel frameOf number modeOf nibble entered outside decoded rowOf takenIn dataOf datastream cut numbered after put without start queued emptied enter joinedBy closed sampled noted cleared commanded obeyed shown polls performed pollsFrom shownFrom accepted answer reply refused replied step fullPacket sent sentAt sentBy countsAfter numberedAll sparedAt numbersAfter takenAt polledFrom polled
+unfolding polledOf ownOf complete handedOut arrive wellFormed packetOf sound readerStart received understood readerStep readings housekeepingData housekeepingPacket onChannel frameOf number modeOf nibble entered outside decoded rowOf takenIn dataOf datastream cut numbered after put without start queued emptied enter joinedBy closed sampled noted cleared commanded obeyed shown polls performed pollsFrom shownFrom accepted answer reply refused replied step fullPacket sent sentAt sentBy countsAfter numberedAll takesAt numbersAfter takenAt polledFrom polled
 across =
     record {
       housekeeping-comes =

@@ -3,7 +3,7 @@
 -- Assumes nothing.
 use mathlib.Core.Path.{_≡_, refl, sym, ap, ap₂, _∙_, subst}
 use mathlib.Core.Logic.{_⊎_, inl, inr}
-use mathlib.Core.Bool.{Bool, true, false, cond, _&&_}
+use mathlib.Core.Bool.{Bool, true, false, cond, _&&_, false≢true}
 use mathlib.Core.List.{List, [], _∷_, _++_, map, append-assoc, append-nil}
 use Prim.Native.Nat.{ℕ, suc, _+_, _%_, _≤_, _<_}
 use native.Mathlib.Omega.{arith}
@@ -18,12 +18,12 @@ use Rattle.paper.specs.Packets.{cut}
 use Rattle.paper.specs.Queue.{Piece, piece, wrap, numbered, after, put, without}
 use Rattle.paper.specs.Controller.{Controller, start}
 use Rattle.paper.specs.Acts.{accepted, answer, shownFrom}
-use Rattle.paper.specs.Step.{holds, reply, nothingWaits, refused, Outcome, outcome, replied, step}
+use Rattle.paper.specs.Step.{holds, reply, refused, Outcome, outcome, replied, step}
 use Rattle.paper.specs.Reader.{packet, packetOf}
 use Rattle.paper.specs.Runs.{Call, replies}
-use Rattle.paper.specs.History.{isAccepted, sentAt, sentBy, countsAfter, numberedAll, spares, stillWaiting, sparedAt, stillWaitingAt}
-use Rattle.delivery.specs.Demands.{Polled, Numbers, isPoll, piecesQueued, none-queued, numbersAfter, takenAt, written, polledFrom, polled, pollOutputs, Numbered, polledOf}
-use Rattle.paper.proofs.Refusals.{reply-is, passed}
+use Rattle.paper.specs.History.{isAccepted, sentAt, sentBy, countsAfter, numberedAll, Takes, nothing, theFirst, named, clears, takes, leaves, sent, takesAt}
+use Rattle.delivery.specs.Demands.{Polled, Numbers, isPoll, piecesQueued, none-queued, joinedAt, numbersAfter, takenAt, written, polledFrom, polled, pollOutputs, Numbered, polledOf}
+use Rattle.paper.proofs.Refusals.{Clear, reply-is, passed}
 use Rattle.paper.proofs.History.{queues-step}
 use Rattle.delivery.proofs.Whole.{polled-parse}
 use Rattle.delivery.proofs.Sizes.{Sizes, sizes-start, sizes-step}
@@ -84,45 +84,28 @@ without-wire f (p ∷ ps) = at (f (p .stream)) (without-wire f ps)
     at true h = h
     at false h = ap (λ l. wire p ∷ l) h
 
-spares-wire : (d : Decoded) (q : List (Piece (List ℕ))) → spares d (map wire q) ≡ map wire (spares d q)
-spares-wire (request (clear mask)) q = without-wire (names mask) q
-spares-wire (request housekeeping) q = refl
-spares-wire (request (setMode value)) q = refl
-spares-wire (refusal n) q = refl
-
-waiting-wire : (f : Frame) (q : List (Piece (List ℕ))) → stillWaiting f (map wire q) ≡ map wire (stillWaiting f q)
-waiting-wire (broadcast cc time altitude spin phase) q = refl
-waiting-wire (command cc id sequence parameters) q = spares-wire (decoded id parameters) q
-waiting-wire (tick r) q = refl
-waiting-wire (sample s x) q = refl
-waiting-wire (poll cc) [] = refl
-waiting-wire (poll cc) (p ∷ q) = refl
-waiting-wire (status cc low flags) q = refl
-waiting-wire (analogue bytes) q = refl
-waiting-wire faulty q = refl
+leaves-wire : (t : Takes) (q : List (Piece (List ℕ))) → leaves t (map wire q) ≡ map wire (leaves t q)
+leaves-wire nothing q = refl
+leaves-wire theFirst [] = refl
+leaves-wire theFirst (p ∷ q) = refl
+leaves-wire (named mask) q = without-wire (names mask) q
 
 -- a controller, and the numbers beside it
 pub record Beside (c : Controller) (w : Numbers) : Type 0 where
-  pub queue : c .queue ≡ map wire (w .waiting)
-  pub counts : (t : ℕ) → c .counts t ≡ w .queued t % 4096
+  pub queue : c .streams .queue ≡ map wire (w .waiting)
+  pub counts : (t : ℕ) → c .streams .counts t ≡ w .queued t % 4096
 
 pub beside-step : (c : Controller) (w : Numbers) (x : Call) → Beside c w → Beside (step c (x .bytes) (x .room) .next) (numbersAfter c w x)
-unfolding numbersAfter sparedAt stillWaitingAt
+unfolding numbersAfter
 beside-step c w x k =
-    let all = all-wire (sentAt c x) (w .queued) (c .counts) (k .counts) in
+    let all = all-wire (sentAt c x) (w .queued) (c .streams .counts) (k .counts) in
     record {
       queue =
           queues-step c x .queue
-          ∙ ap₂ _++_ (at (isAccepted (step c (x .bytes) (x .room) .reply))) (all .0)
-          ∙ sym (map-append wire (sparedAt c x (w .waiting)) (numberedAll suc (w .queued) (sentAt c x)));
+          ∙ ap (leaves (takesAt c x)) (ap₂ _++_ (k .queue) (all .0) ∙ sym (map-append wire (w .waiting) _))
+          ∙ leaves-wire (takesAt c x) (joinedAt c w x);
       counts = λ t. ap (λ g. g t) (queues-step c x .counts) ∙ all .1 t;
     }
-  where
-    at : (b : Bool)
-        → cond b (stillWaiting (frameOf (x .bytes)) (c .queue)) (c .queue)
-        ≡ map wire (cond b (stillWaiting (frameOf (x .bytes)) (w .waiting)) (w .waiting))
-    at true = ap (stillWaiting (frameOf (x .bytes))) (k .queue) ∙ waiting-wire (frameOf (x .bytes)) (w .waiting)
-    at false = k .queue
 
 -- ---- of one stream: rising numbers, each with the body that was queued under it
 
@@ -302,7 +285,7 @@ Effect s waiting taken spared out =
     ⊎ ((p : Piece (List ℕ)) × (q : List (Piece (List ℕ))) × (waiting ≡ p ∷ q) × (taken ≡ p ∷ []) × (spared ≡ q)
     × (packetOf out ≡ packet (p .stream) (p .count % 4096) (p .body)))
 
-module _ (s : ℕ) (c : Controller) (w : Numbers) (k : Beside c w) (g : Readies (c .queue)) where
+module _ (s : ℕ) (c : Controller) (w : Numbers) (k : Beside c w) (g : Readies (c .streams .queue)) where
   polls : (cc : Channel) (q : List (Piece (List ℕ))) → Readies (map wire q)
       → Effect s q (take 1 q) (drop 1 q) (shownFrom c cc (map wire q))
   unfolding shownFrom
@@ -310,36 +293,42 @@ module _ (s : ℕ) (c : Controller) (w : Numbers) (k : Beside c w) (g : Readies 
   polls cc (p ∷ q) h =
       inr (p, q, refl, refl, refl, polled-parse cc (c .tallies .telemetry) (wire p) (h .0))
 
-  first : (cc : Channel) → Effect s (w .waiting) (take 1 (w .waiting)) (drop 1 (w .waiting)) (shownFrom c cc (c .queue))
+  -- where no piece joins those that wait
+  first : (cc : Channel) → Effect s (w .waiting ++ []) (take 1 (w .waiting ++ [])) (drop 1 (w .waiting ++ [])) (shownFrom c cc (c .streams .queue))
   first cc =
-      subst (λ (q : List (Piece (List ℕ))). Effect s (w .waiting) (take 1 (w .waiting)) (drop 1 (w .waiting)) (shownFrom c cc q))
-      (sym (k .queue)) (polls cc (w .waiting) (subst Readies (k .queue) g))
+      let q : List (Piece (List ℕ)) = w .waiting ++ [] in
+      let e : c .streams .queue ≡ map wire q = k .queue ∙ ap (map wire) (sym (append-nil (w .waiting))) in
+      subst (λ (r : List (Piece (List ℕ))). Effect s q (take 1 q) (drop 1 q) (shownFrom c cc r)) (sym e) (polls cc q (subst Readies e g))
 
-  keeps : (out : List ℕ) → Effect s (w .waiting) [] (w .waiting) out
-  keeps out = inl (refl, (λ H lo f. f), λ T ps u. u)
+  keeps : (q : List (Piece (List ℕ))) (out : List ℕ) → Effect s q [] q out
+  keeps q out = inl (refl, (λ H lo f. f), λ T ps u. u)
 
-  orders : (d : Decoded) (out : List ℕ) → Effect s (w .waiting) [] (spares d (w .waiting)) out
-  orders (request (clear mask)) out =
-      inl (refl, (λ H lo f. rising-without s (names mask) H lo (w .waiting) f), λ T ps u. sub-without (names mask) (w .waiting) T ps u)
-  orders (request housekeeping) out = keeps out
-  orders (request (setMode value)) out = keeps out
-  orders (refusal n) out = keeps out
+  orders : (d : Decoded) (q : List (Piece (List ℕ))) (out : List ℕ) → Effect s q [] (leaves (clears d) q) out
+  orders (request (clear mask)) q out =
+      inl (refl, (λ H lo f. rising-without s (names mask) H lo q f), λ T ps u. sub-without (names mask) q T ps u)
+  orders (request housekeeping) q out = keeps q out
+  orders (request (setMode value)) q out = keeps q out
+  orders (refusal n) q out = keeps q out
 
-  acts : (f : Frame)
-      → Effect s (w .waiting) (cond (isPoll f) (take 1 (w .waiting)) []) (stillWaiting f (w .waiting)) (answer c f)
-  unfolding answer
-  acts (broadcast cc time altitude spin phase) = keeps []
-  acts (command cc id sequence parameters) = orders (decoded id parameters) []
-  acts (tick r) = keeps []
-  acts (sample t x) = keeps []
+  -- the pieces that wait once those that frame f sends have joined them
+  abbrev joined : Frame → List (Piece (List ℕ))
+  joined f = w .waiting ++ numberedAll suc (w .queued) (sent c f)
+
+  acts : (f : Frame) → Effect s (joined f) (cond (isPoll f) (take 1 (joined f)) []) (leaves (takes f) (joined f)) (answer c f)
+  unfolding answer sent numberedAll
+  acts (broadcast cc time altitude spin phase) = keeps _ []
+  acts (command cc id sequence parameters) = orders (decoded id parameters) _ []
+  acts (tick r) = keeps _ []
+  acts (sample t x) = keeps _ []
   acts (poll cdmuA) = first cdmuA
   acts (poll cdmuB) = first cdmuB
-  acts (status cc low flags) = keeps _
-  acts (analogue bytes) = keeps []
-  acts faulty = keeps []
+  acts (status cc low flags) = keeps _ _
+  acts (analogue bytes) = keeps _ []
+  acts faulty = keeps _ []
 
-  calls : (x : Call) → Effect s (w .waiting) (takenAt c x (w .waiting)) (sparedAt c x (w .waiting)) (step c (x .bytes) (x .room) .out)
-  unfolding step replied takenAt sparedAt
+  calls : (x : Call)
+      → Effect s (joinedAt c w x) (takenAt c x (joinedAt c w x)) (leaves (takesAt c x) (joinedAt c w x)) (step c (x .bytes) (x .room) .out)
+  unfolding step replied takenAt takesAt sentAt
   calls x = by (reply (holds c) f (x .room)) (eqb (reply (holds c) f (x .room)) 0) refl
     where
       f : Frame
@@ -348,11 +337,15 @@ module _ (s : ℕ) (c : Controller) (w : Numbers) (k : Beside c w) (g : Readies 
       o : Bool → ℕ → Outcome
       o b n = cond b (outcome 0 (answer c f) (accepted c f)) (outcome n [] (refused n f c))
 
+      -- with the pieces of a call that is accepted, or not
+      q : Bool → List (Piece (List ℕ))
+      q a = w .waiting ++ numberedAll suc (w .queued) (cond a (sent c f) [])
+
       by : (n : ℕ) (b : Bool) → eqb n 0 ≡ b
-          → Effect s (w .waiting) (cond (isAccepted (o b n .reply) && isPoll f) (take 1 (w .waiting)) [])
-          (cond (isAccepted (o b n .reply)) (stillWaiting f (w .waiting)) (w .waiting)) (o b n .out)
+          → Effect s (q (isAccepted (o b n .reply))) (cond (isAccepted (o b n .reply) && isPoll f) (take 1 (q (isAccepted (o b n .reply)))) [])
+          (leaves (cond (isAccepted (o b n .reply)) (takes f) nothing) (q (isAccepted (o b n .reply)))) (o b n .out)
       by n true e = acts f
-      by n false e = rw e (keeps [])
+      by n false e = rw e (keeps (q false) [])
 
 -- ---- a run
 
@@ -416,14 +409,13 @@ polls-fine s (x ∷ xs) c w H lo k z g n l f =
     let now : List (ℕ × List ℕ) = sentAt c x in
     let next : Controller = step c (x .bytes) (x .room) .next in
     let G : List (List ℕ) = piecesQueued s now in
-    rw (bodies-append s now (sentBy next xs))
-    (adds s H (G ++ piecesQueued s (sentBy next xs)) lo (w .waiting) (takenAt c x (w .waiting)) (sparedAt c x (w .waiting))
-    (step c (x .bytes) (x .room) .out) (polledFrom next (numbersAfter c w x) xs) (calls s c w k (g .ready) x) l f
+    let all = rising-all s now (w .queued) H lo (w .waiting) n l f in
+    rw (bodies-append s now (sentBy next xs), ← append-assoc H G (piecesQueued s (sentBy next xs)))
+    (adds s (H ++ G) (piecesQueued s (sentBy next xs)) lo (joinedAt c w x) (takenAt c x (joinedAt c w x))
+    (leaves (takesAt c x) (joinedAt c w x)) (step c (x .bytes) (x .room) .out) (polledFrom next (numbersAfter c w x) xs)
+    (calls s c w k (g .ready) x) (omega (arith, length-append H G)) (all .0)
     (λ lo′ l′ f′.
-    let all = rising-all s now (w .queued) H lo′ (sparedAt c x (w .waiting)) n l′ f′ in
-    rw (← append-assoc H G (piecesQueued s (sentBy next xs)))
-    (polls-fine s xs next (numbersAfter c w x) (H ++ G) lo′ (beside-step c w x k) (sizes-step c x z) (waits-step c x z g) (all .1)
-    (omega (arith, length-append H G)) (all .0))))
+    polls-fine s xs next (numbersAfter c w x) (H ++ G) lo′ (beside-step c w x k) (sizes-step c x z) (waits-step c x z g) (all .1) l′ f′))
 
 beside-start : Beside start none-queued
 unfolding start
@@ -457,27 +449,38 @@ module _ (sent : List (ℕ × List ℕ)) where
 pub polled-numbered : (calls : List Call) → Numbered (sentBy start calls) (polled calls)
 polled-numbered calls = numbered-all (sentBy start calls) (polled calls) (λ s. (0, polled-fine calls s .0))
 
--- an accepted poll finds a piece, so its bytes are among them
-some-first : (q : List (Piece (List ℕ))) (out : List ℕ) → eqb (length (map wire q)) 0 ≡ false
-    → map (λ p. p .bytes) (map (written out) (take 1 q)) ≡ out ∷ []
-some-first [] out h = absurd (eqb-false 0 0 h refl)
-some-first (p ∷ q) out h = refl
+-- what holds of each poll holds of a frame that is one
+pub of-polls : (P : Frame → Type 0) → ((cc : Channel) → P (poll cc)) → (f : Frame) → isPoll f ≡ true → P f
+of-polls P h (broadcast cc time altitude spin phase) e = absurd (false≢true e)
+of-polls P h (command cc id sequence parameters) e = absurd (false≢true e)
+of-polls P h (tick r) e = absurd (false≢true e)
+of-polls P h (sample s x) e = absurd (false≢true e)
+of-polls P h (poll cc) e = h cc
+of-polls P h (status cc low flags) e = absurd (false≢true e)
+of-polls P h (analogue bytes) e = absurd (false≢true e)
+of-polls P h faulty e = absurd (false≢true e)
 
-first-waits : (c : Controller) (w : Numbers) → Beside c w → (f : Frame) → nothingWaits f c ≡ false → (out : List ℕ)
-    → map (λ p. p .bytes) (map (written out) (cond (isPoll f) (take 1 (w .waiting)) [])) ≡ cond (isPoll f) (out ∷ []) []
-first-waits c w k (broadcast cc time altitude spin phase) h out = refl
-first-waits c w k (command cc id sequence parameters) h out = refl
-first-waits c w k (tick r) h out = refl
-first-waits c w k (sample t x) h out = refl
-first-waits c w k (poll cdmuA) h out = some-first (w .waiting) out (ap (λ (q : List (Piece (List ℕ))). eqb (length q) 0) (sym (k .queue)) ∙ h)
-first-waits c w k (poll cdmuB) h out = some-first (w .waiting) out (ap (λ (q : List (Piece (List ℕ))). eqb (length q) 0) (sym (k .queue)) ∙ h)
-first-waits c w k (status cc low flags) h out = refl
-first-waits c w k (analogue bytes) h out = refl
-first-waits c w k faulty h out = refl
+-- an accepted poll finds a piece, so its bytes are among them
+some-first : (q r : List (Piece (List ℕ))) (out : List ℕ) → eqb (length (map wire q)) 0 ≡ false
+    → map (λ p. p .bytes) (map (written out) (take 1 (q ++ r))) ≡ out ∷ []
+some-first [] r out h = absurd (eqb-false 0 0 h refl)
+some-first (p ∷ q) r out h = refl
+
+first-waits : (c : Controller) (w : Numbers) → Beside c w → (f : Frame) → Clear c f 9 → (r : List (Piece (List ℕ))) (out : List ℕ)
+    → map (λ p. p .bytes) (map (written out) (cond (isPoll f) (take 1 (w .waiting ++ r)) [])) ≡ cond (isPoll f) (out ∷ []) []
+first-waits c w k f h r out = by (isPoll f) refl
+  where
+    some : isPoll f ≡ true → eqb (length (c .streams .queue)) 0 ≡ false
+    some e = of-polls (λ g. Clear c g 9 → eqb (length (c .streams .queue)) 0 ≡ false) (λ cc z. z) f e h
+
+    by : (b : Bool) → isPoll f ≡ b
+        → map (λ p. p .bytes) (map (written out) (cond b (take 1 (w .waiting ++ r)) [])) ≡ cond b (out ∷ []) []
+    by true e = some-first (w .waiting) r out (ap (λ (q : List (Piece (List ℕ))). eqb (length q) 0) (sym (k .queue)) ∙ some e)
+    by false e = refl
 
 one-output : (c : Controller) (w : Numbers) → Beside c w → (x : Call) (rest : List (List ℕ)) (more : List Polled)
     → map (λ p. p .bytes) more ≡ rest
-    → map (λ p. p .bytes) (map (written (step c (x .bytes) (x .room) .out)) (takenAt c x (w .waiting)) ++ more)
+    → map (λ p. p .bytes) (map (written (step c (x .bytes) (x .room) .out)) (takenAt c x (joinedAt c w x)) ++ more)
     ≡ cond (isAccepted (step c (x .bytes) (x .room) .reply) && isPoll (frameOf (x .bytes))) (step c (x .bytes) (x .room) .out ∷ rest) rest
 unfolding takenAt
 one-output c w k x rest more e = by (isAccepted (step c (x .bytes) (x .room) .reply)) refl
@@ -488,7 +491,10 @@ one-output c w k x rest more e = by (isAccepted (step c (x .bytes) (x .room) .re
     f : Frame
     f = frameOf (x .bytes)
 
-    waits : isAccepted (step c (x .bytes) (x .room) .reply) ≡ true → nothingWaits f c ≡ false
+    q : List (Piece (List ℕ))
+    q = joinedAt c w x
+
+    waits : isAccepted (step c (x .bytes) (x .room) .reply) ≡ true → Clear c f 9
     waits t = passed c f (x .room) (sym (reply-is c (x .bytes) (x .room)) ∙ eqb-true _ 0 t) .waits
 
     onto : (b : Bool) → cond b (out ∷ []) [] ++ rest ≡ cond b (out ∷ rest) rest
@@ -496,11 +502,10 @@ one-output c w k x rest more e = by (isAccepted (step c (x .bytes) (x .room) .re
     onto false = refl
 
     by : (b : Bool) → isAccepted (step c (x .bytes) (x .room) .reply) ≡ b
-        → map (λ p. p .bytes) (map (written out) (cond (b && isPoll f) (take 1 (w .waiting)) []) ++ more)
-        ≡ cond (b && isPoll f) (out ∷ rest) rest
+        → map (λ p. p .bytes) (map (written out) (cond (b && isPoll f) (take 1 q) []) ++ more) ≡ cond (b && isPoll f) (out ∷ rest) rest
     by true t =
-        map-append (λ (p : Polled). p .bytes) (map (written out) (cond (isPoll f) (take 1 (w .waiting)) [])) more
-        ∙ ap₂ _++_ (first-waits c w k f (waits t) out) e
+        map-append (λ (p : Polled). p .bytes) (map (written out) (cond (isPoll f) (take 1 q) [])) more
+        ∙ ap₂ _++_ (first-waits c w k f (waits t) (numberedAll suc (w .queued) (sentAt c x)) out) e
         ∙ onto (isPoll f)
     by false t = e
 
@@ -539,10 +544,10 @@ polls-sub [] c w k z g = tt
 polls-sub (x ∷ xs) c w k z g =
     let now : List (ℕ × List ℕ) = sentAt c x in
     let next : Controller = step c (x .bytes) (x .room) .next in
-    let spared : List (Piece (List ℕ)) = sparedAt c x (w .waiting) in
-    sub-adds (w .waiting) (takenAt c x (w .waiting)) spared (numberedAll suc (w .queued) (now ++ sentBy next xs))
+    let later : List (Piece (List ℕ)) = numberedAll suc (countsAfter suc (w .queued) now) (sentBy next xs) in
+    rw (numbered-append now (sentBy next xs) (w .queued), ← append-assoc (w .waiting) (numberedAll suc (w .queued) now) later)
+    (sub-adds (joinedAt c w x) (takenAt c x (joinedAt c w x)) (leaves (takesAt c x) (joinedAt c w x)) later
     (step c (x .bytes) (x .room) .out) (polledFrom next (numbersAfter c w x) xs) (calls 0 c w k (g .ready) x)
-    (rw (numbered-append now (sentBy next xs) (w .queued), ← append-assoc spared (numberedAll suc (w .queued) now) (numberedAll suc (countsAfter suc (w .queued) now) (sentBy next xs)))
     (polls-sub xs next (numbersAfter c w x) (beside-step c w x k) (sizes-step c x z) (waits-step c x z g)))
 
 -- the packets polled are some of the pieces ever queued, in the order queued

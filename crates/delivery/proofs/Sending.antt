@@ -14,7 +14,7 @@ use borrow.Author.Tests.{eqb-true, not-false}
 use Rattle.wire.specs.Wire.{be16}
 use Rattle.paper.specs.Frames.{Channel, Frame, broadcast, command, tick, sample, poll, status, analogue, faulty, frameOf}
 use Rattle.paper.specs.Impact.{Impact, Stamp}
-use Rattle.paper.specs.Commands.{clear, housekeeping, setMode, Decoded, request, refusal, names, decoded}
+use Rattle.paper.specs.Commands.{names, decoded}
 use Rattle.paper.specs.Streams.{Form, ofBytes, of12Bits, rowOf, acc-i, hk, pieces, listed, perPacket, width, form, carried}
 use Rattle.paper.specs.Streams as table
 use Rattle.paper.specs.Packets.{pack, joined, made, dataOf, opening, closing, header, datastream, cut}
@@ -25,7 +25,7 @@ use Rattle.paper.specs.Acts.{completes, taken, impactPacket, joinedBy, closes, 
 use Rattle.paper.specs.Step.{holds, queues, reply, replied, step}
 use Rattle.paper.specs.Reader.{packet, packetOf}
 use Rattle.paper.specs.Runs.{Call, runs}
-use Rattle.paper.specs.History.{isAccepted, fullPacket, onlyIf, sent, sentAt, sentBy, countsAfter, numberedAll, spares, stillWaiting, sparedAt, stillWaitingAt}
+use Rattle.paper.specs.History.{isAccepted, fullPacket, onlyIf, sent, sentAt, sentBy, countsAfter, numberedAll, Takes, nothing, theFirst, named, leaves, takesAt}
 use Rattle.paper.proofs.Packets.{length-pack}
 use Rattle.paper.proofs.All.{All, all-append, all-drop, all-without}
 use Rattle.paper.proofs.Table.{sampled-carried, bytes-fill, Paired, values-fill}
@@ -93,8 +93,8 @@ whole-samples : (c : Controller) (s : ℕ) (x : List ℕ) → table.sampled s �
 unfolding fullPacket joinedBy
 whole-samples c s x h l e k =
     whole-datastream s _ _ (sampled-carried s h)
-    (length-data s (c .opened s .samples ++ (x ∷ [])) h (all-append _ (c .opened s .samples) (x ∷ []) (k .fits s .1) (l, tt))
-    (omega (arith, length-append (c .opened s .samples) (x ∷ []), eqb-true (suc (length (c .opened s .samples))) (perPacket s) e)))
+    (length-data s (c .streams .opened s .samples ++ (x ∷ [])) h (all-append _ (c .streams .opened s .samples) (x ∷ []) (k .fits s .1) (l, tt))
+    (omega (arith, length-append (c .streams .opened s .samples) (x ∷ []), eqb-true (suc (length (c .streams .opened s .samples))) (perPacket s) e)))
 
 sent-accepted : (c : Controller) (f : Frame) (room : ℕ) → Passed c f room → Sizes c → Wholes (sent c f)
 unfolding sent noted
@@ -174,46 +174,30 @@ ready-all (p ∷ ps) counts w h =
     (ready-numbered s (counts s) (cut (pieces s) (p .1)) (w .0 .0) (h s) (full-cut (pieces s) (p .1)))
     (ready-all ps _ (w .1) (put-below counts s _ h (after-below (counts s) (cut (pieces s) (p .1)) (h s))))
 
-ready-spares : (d : Decoded) (q : List (Piece (List ℕ))) → Readies q → Readies (spares d q)
-ready-spares (request (clear mask)) q r = all-without _ (names mask) q r
-ready-spares (request housekeeping) q r = r
-ready-spares (request (setMode value)) q r = r
-ready-spares (refusal n) q r = r
-
-ready-still : (f : Frame) (q : List (Piece (List ℕ))) → Readies q → Readies (stillWaiting f q)
-ready-still (broadcast cc time altitude spin phase) q r = r
-ready-still (command cc id sequence parameters) q r = ready-spares (decoded id parameters) q r
-ready-still (tick n) q r = r
-ready-still (sample s x) q r = r
-ready-still (poll cc) q r = all-drop _ 1 q r
-ready-still (status cc low flags) q r = r
-ready-still (analogue bytes) q r = r
-ready-still faulty q r = r
+ready-leaves : (t : Takes) (q : List (Piece (List ℕ))) → Readies q → Readies (leaves t q)
+ready-leaves nothing q r = r
+ready-leaves theFirst q r = all-drop _ 1 q r
+ready-leaves (named mask) q r = all-without _ (names mask) q r
 
 -- Every piece that waits is ready, and so is every count that the next one takes.
 pub record Waits (c : Controller) : Type 0 where
-  pub ready : Readies (c .queue)
-  pub below : Below (c .counts)
+  pub ready : Readies (c .streams .queue)
+  pub below : Below (c .streams .counts)
 
 pub waits-start : Waits start
 unfolding start
 waits-start = record { ready = tt; below = λ s. omega arith }
 
 pub waits-step : (c : Controller) (x : Call) → Sizes c → Waits c → Waits (step c (x .bytes) (x .room) .next)
-unfolding sparedAt stillWaitingAt
 waits-step c x k w =
     let q = queues-step c x in
     record {
       ready =
           subst Readies (sym (q .queue))
-          (all-append _ (stillWaitingAt c x) _ (by (isAccepted (step c (x .bytes) (x .room) .reply)))
-          (ready-all (sentAt c x) (c .counts) (sent-step c x k) (w .below)));
-      below = subst Below (sym (q .counts)) (counts-below (sentAt c x) (c .counts) (w .below));
+          (ready-leaves (takesAt c x) _
+          (all-append _ (c .streams .queue) _ (w .ready) (ready-all (sentAt c x) (c .streams .counts) (sent-step c x k) (w .below))));
+      below = subst Below (sym (q .counts)) (counts-below (sentAt c x) (c .streams .counts) (w .below));
     }
-  where
-    by : (b : Bool) → Readies (cond b (stillWaiting (frameOf (x .bytes)) (c .queue)) (c .queue))
-    by true = ready-still (frameOf (x .bytes)) (c .queue) (w .ready)
-    by false = w .ready
 
 pub waits-runs : (xs : List Call) (c : Controller) → Sizes c → Waits c → Waits (runs c xs)
 unfolding runs
@@ -224,12 +208,12 @@ waits-runs (x ∷ xs) c k w = waits-runs xs (step c (x .bytes) (x .room) .next) 
 pub waits-fresh : (xs : List Call) → Waits (runs start xs)
 waits-fresh xs = waits-runs xs start sizes-start waits-start
 
-pub queue-pieces : (xs : List Call) → Readies (runs start xs .queue)
+pub queue-pieces : (xs : List Call) → Readies (runs start xs .streams .queue)
 queue-pieces xs = waits-fresh xs .ready
 
 -- An accepted poll writes the first piece that waits, and the reader finds it there.
 pub poll-tells : (c : Controller) (x : Call) (cc : Channel) (p : Piece (List ℕ)) (rest : List (Piece (List ℕ))) → Waits c
-    → frameOf (x .bytes) ≡ poll cc → c .queue ≡ p ∷ rest → step c (x .bytes) (x .room) .reply ≡ 0
+    → frameOf (x .bytes) ≡ poll cc → c .streams .queue ≡ p ∷ rest → step c (x .bytes) (x .room) .reply ≡ 0
     → packetOf (step c (x .bytes) (x .room) .out) ≡ packet (p .stream) (p .count) (p .body)
 unfolding step replied answer shownFrom
 poll-tells c x cc p rest w f q e =

@@ -20,11 +20,11 @@ use Rattle.paper.specs.Streams as table
 use Rattle.paper.specs.Queue.{Piece, put}
 use Rattle.paper.specs.Controller.{Open, nothingOpen, Controller, start, queued, withImpact, stampNow}
 use Rattle.paper.specs.Acts.{emptied, enter, heard, moved, counted, inProximity, completes, taken, detected, watched, watching, ended, impactPacket, completed, ticks, joinedBy, closes, closed, extended, sampled, noted, cleared, commanded, obeyed, polled, performed, polledFrom, accepted, answer}
-use Rattle.paper.specs.Step.{holds, reply, lateHeard, erred, isError, refused, outcome, replied, step}
+use Rattle.paper.specs.Step.{holds, reply, lateHeard, erred, refused, outcome, replied, step}
 use Rattle.paper.specs.Runs.{Call, runs}
 use Rattle.paper.proofs.All.{All, all-append}
-use Rattle.paper.proofs.Shapes.{through}
-use Rattle.paper.proofs.Refusals.{Passed, passed}
+use Rattle.paper.proofs.Shapes.{Shaped, shaped}
+use Rattle.paper.proofs.Refusals.{Passed, passed, refused-any}
 
 -- ---- what the controller holds for packets to come
 
@@ -43,7 +43,7 @@ pub record Sized (ring housed : List ℕ) (opened : ℕ → Open) : Type 0 where
   pub fits : (s : ℕ) → Fits s (opened s)
 
 abbrev pub Sizes : Controller → Type 0
-Sizes c = Sized (c .impact .ring) (c .housed) (c .opened)
+Sizes c = Sized (c .impact .ring) (c .housed) (c .streams .opened)
 
 pub sizes-start : Sizes start
 unfolding start
@@ -141,21 +141,21 @@ unfolding sampled closed extended queued joinedBy
 sizes-sampled c s x h l k = by (closes c s) refl
   where
     o : Open
-    o = joinedBy (c .opened s) (stampNow c s) x
+    o = joinedBy (c .streams .opened s) (stampNow c s) x
 
     by : (b : Bool) → closes c s ≡ b → Sizes (cond b (closed c s o) (extended c s o))
-    by true e = with-open _ k (put-fits (c .opened) s nothingOpen (k .fits) (omega arith, tt))
+    by true e = with-open _ k (put-fits (c .streams .opened) s nothingOpen (k .fits) (omega arith, tt))
     by false e =
-        let few : suc (length (c .opened s .samples)) ≢ perPacket s = eqb-false _ _ e in
+        let few : suc (length (c .streams .opened s .samples)) ≢ perPacket s = eqb-false _ _ e in
         with-open _ k
-        (put-fits (c .opened) s o (k .fits) (
-          omega (arith, ltb-true 0 (perPacket s) h, k .fits s .0, few, length-append (c .opened s .samples) (x ∷ [])),
-          all-append _ (c .opened s .samples) (x ∷ []) (k .fits s .1) (l, tt),
+        (put-fits (c .streams .opened) s o (k .fits) (
+          omega (arith, ltb-true 0 (perPacket s) h, k .fits s .0, few, length-append (c .streams .opened s .samples) (x ∷ [])),
+          all-append _ (c .streams .opened s .samples) (x ∷ []) (k .fits s .1) (l, tt),
         ))
 
 sizes-performed : (c : Controller) (d : Decoded) → Sizes c → Sizes (performed c d)
 unfolding performed obeyed cleared commanded queued
-sizes-performed c (request (clear mask)) k = with-open _ k (λ s. nothing-fits (names mask s) s (c .opened s) (k .fits s))
+sizes-performed c (request (clear mask)) k = with-open _ k (λ s. nothing-fits (names mask s) s (c .streams .opened s) (k .fits s))
 sizes-performed c (request housekeeping) k = k
 sizes-performed c (request (setMode value)) k =
     sizes-enter (withImpact c (ended (c .impact))) (modeOf (value % 8)) (leb 8 value) (seconds (c .clock .time)) k
@@ -166,61 +166,21 @@ unfolding polledFrom polled
 sizes-polled c cc [] k = k
 sizes-polled c cc (p ∷ rest) k = k
 
--- what a frame's bytes say of its size
-abbrev Shaped : Frame → Type 0
-Shaped (broadcast cc time altitude spin phase) = Unit {0}
-Shaped (command cc id sequence parameters) = Unit {0}
-Shaped (tick r) = Unit {0}
-Shaped (sample s x) = Unit {0}
-Shaped (poll cc) = Unit {0}
-Shaped (status cc low flags) = Unit {0}
-Shaped (analogue bytes) = length bytes ≡ 58
-Shaped faulty = Unit {0}
-
-shaped : (f : List ℕ) → Shaped (frameOf f)
-shaped f =
-    through Shaped f
-    (record {
-      broadcasts = λ cc. tt;
-      commands = λ cc. tt;
-      ticks = tt;
-      samples = tt;
-      polls = λ cc. tt;
-      statuses = λ cc. tt;
-      analogues = λ l. omega (arith, l, length-drop 1 f);
-      none = tt;
-    })
-
-sizes-accepted : (c : Controller) (f : Frame) (room : ℕ) → Shaped f → Passed c f room → Sizes c → Sizes (accepted c f)
+sizes-accepted : (c : Controller) (f : Frame) (room : ℕ) → Shaped (λ x. Unit {0}) f → Passed c f room → Sizes c → Sizes (accepted c f)
 unfolding accepted heard noted
 sizes-accepted c (broadcast cc time altitude spin phase) room h p k = sizes-moved (heard c cc time altitude spin phase) k
 sizes-accepted c (command cc id sequence parameters) room h p k = sizes-performed (noted c cc id sequence) (decoded id parameters) k
 sizes-accepted c (tick r) room h p k = sizes-ticks c r k
 sizes-accepted c (sample s x) room h p k =
     sizes-sampled c s x (not-false _ (p .carries)) (eqb-true _ _ (not-false _ (p .sized))) k
-sizes-accepted c (poll cc) room h p k = sizes-polled c cc (c .queue) k
+sizes-accepted c (poll cc) room h p k = sizes-polled c cc (c .streams .queue) k
 sizes-accepted c (status cc low flags) room h p k = k
 sizes-accepted c (analogue bytes) room h p k = record { readings = k .readings; analogues = h; fits = k .fits }
 sizes-accepted c faulty room h p k = k
 
 sizes-refused : (n : ℕ) (f : Frame) (c : Controller) → Sizes c → Sizes (refused n f c)
-unfolding refused lateHeard erred
-sizes-refused n (broadcast cc time altitude spin phase) c k = by (eqb n 5)
-  where
-    by : (b : Bool) → Sizes (cond b (lateHeard c cc) c)
-    by true = k
-    by false = k
-sizes-refused n (command cc id sequence parameters) c k = by (isError n)
-  where
-    by : (b : Bool) → Sizes (cond b (erred c cc n) c)
-    by true = k
-    by false = k
-sizes-refused n (tick r) c k = k
-sizes-refused n (sample s x) c k = k
-sizes-refused n (poll cc) c k = k
-sizes-refused n (status cc low flags) c k = k
-sizes-refused n (analogue bytes) c k = k
-sizes-refused n faulty c k = k
+unfolding lateHeard erred
+sizes-refused n f c k = refused-any Sizes n f c k (λ cc. k) (λ cc m. k)
 
 -- a call keeps them
 pub sizes-step : (c : Controller) (x : Call) → Sizes c → Sizes (step c (x .bytes) (x .room) .next)
@@ -232,7 +192,7 @@ sizes-step c x k = by (reply (holds c) f (x .room)) refl (eqb (reply (holds c) f
 
     by : (n : ℕ) → reply (holds c) f (x .room) ≡ n → (b : Bool) → eqb n 0 ≡ b
         → Sizes (cond b (outcome 0 (answer c f) (accepted c f)) (outcome n [] (refused n f c)) .next)
-    by n r true e = sizes-accepted c f (x .room) (shaped (x .bytes)) (passed c f (x .room) (r ∙ eqb-true n 0 e)) k
+    by n r true e = sizes-accepted c f (x .room) (shaped (λ y. Unit {0}) (x .bytes) tt) (passed c f (x .room) (r ∙ eqb-true n 0 e)) k
     by n r false e = sizes-refused n f c k
 
 pub sizes-runs : (xs : List Call) (c : Controller) → Sizes c → Sizes (runs c xs)

@@ -27,10 +27,10 @@ use Rattle.paper.specs.Streams.{pieces}
 use Rattle.paper.specs.Packets.{cut}
 use Rattle.paper.specs.Queue.{Piece, put}
 use Rattle.paper.specs.Controller.{Controller, start}
-use Rattle.paper.specs.Step.{Outcome, step}
+use Rattle.paper.specs.Step.{countOf, Outcome, step}
 use Rattle.paper.specs.Reader.{Packet, packet, notCarried, noPacket, packetOf, readerStart, readerStep}
 use Rattle.paper.specs.Runs.{Call, replies, readings}
-use Rattle.paper.specs.History.{pollOn, isAccepted, sentAt, sentBy, countsAfter, numberedAll, sparedAt}
+use Rattle.paper.specs.History.{pollOn, isAccepted, sentAt, sentBy, countsAfter, numberedAll, leaves, takesAt}
 
 -- ---- "Take the controller's packets in the order polled"
 
@@ -49,15 +49,15 @@ pub record Numbers : Type 0 where
 abbrev pub none-queued : Numbers
 none-queued = record { queued = λ s. 0; waiting = [] }
 
+-- the pieces that wait once those that a call queues have joined them
+abbrev pub joinedAt : Controller → Numbers → Call → List (Piece (List ℕ))
+joinedAt c w x = w .waiting ++ numberedAll suc (w .queued) (sentAt c x)
+
 unfoldable pub numbersAfter : Controller → Numbers → Call → Numbers
-numbersAfter c w x =
-    record {
-      queued = countsAfter suc (w .queued) (sentAt c x);
-      waiting = sparedAt c x (w .waiting) ++ numberedAll suc (w .queued) (sentAt c x);
-    }
+numbersAfter c w x = record { queued = countsAfter suc (w .queued) (sentAt c x); waiting = leaves (takesAt c x) (joinedAt c w x) }
 
 abbrev pub isPoll : Frame → Bool
-isPoll f = pollOn cdmuA f || pollOn cdmuB f
+isPoll f = pollOn cdmuA (countOf f) || pollOn cdmuB (countOf f)
 
 -- an accepted poll takes the first piece that waits
 unfoldable pub takenAt : Controller → Call → List (Piece (List ℕ)) → List (Piece (List ℕ))
@@ -70,7 +70,7 @@ unfoldable pub polledFrom : Controller → Numbers → List Call → List Polled
 polledFrom c w [] = []
 polledFrom c w (x ∷ xs) =
     let o : Outcome = step c (x .bytes) (x .room) in
-    map (written (o .out)) (takenAt c x (w .waiting)) ++ polledFrom (o .next) (numbersAfter c w x) xs
+    map (written (o .out)) (takenAt c x (joinedAt c w x)) ++ polledFrom (o .next) (numbersAfter c w x) xs
 
 -- "Start both afresh."
 unfoldable pub polled : List Call → List Polled

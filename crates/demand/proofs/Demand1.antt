@@ -7,11 +7,12 @@ use Prim.Native.Nat.{ℕ, _≤_, _<_}
 use lib.Dec.{eqb, leb}
 use lib.ListN.{length, drop}
 use borrow.Author.Tests.{le-leb, lt-leb, eqb-true, eqb-false}
-use Rattle.paper.specs.Frames.{Channel, Frame, broadcast, command, tick, sample, poll, status, analogue, faulty, frameOf}
+use Rattle.paper.specs.Frames.{Channel, Frame, broadcast, command, frameOf}
 use Rattle.paper.specs.Controller.{Controller, start}
 use Rattle.paper.specs.Acts.{answer}
 use Rattle.paper.specs.Reader.{Reader, readerStart, readerStep}
-use Rattle.paper.specs.Step.{unfit, holds, reply, isError, lateHeard, erred, refused, changesListed}
+use Rattle.paper.specs.Step.{unfit, holds, reply, isError, lateHeard, erred, refused, countOf, change, changesListed}
+use Rattle.paper.proofs.Refusals.{unlisted}
 use Rattle.state.specs.Layout.{stateBytes}
 use Rattle.state.specs.View.{view}
 use Rattle.state.specs.Range.{Fit, fit}
@@ -20,7 +21,7 @@ use Rattle.state.specs.Fresh.{startedOn}
 use Rattle.state.specs.Calls.{Framed}
 use Rattle.state.proofs.Ranges.{fit-true}
 use Rattle.wire.specs.Wire.{put}
-use Rattle.machine.specs.Called.{actedOn, refusedOn, repliedOn, stepOf, startOf}
+use Rattle.machine.specs.Called.{actedOn, changedOn, refusedOn, repliedOn, stepOf, startOf}
 use Rattle.machine.specs.Runs.{runOf}
 use Rattle.machine.proofs.Past.{call-tail, start-past, past-drop}
 use Rattle.machine.proofs.Fresh.{start-view}
@@ -128,16 +129,9 @@ error s f o cc id sequence parameters e t =
     at n t = rw (e, t)
 
 -- bytes that stay
-unlisted : (s : List ℕ) (n : ℕ) (f : Frame) → changesListed n f ≡ false → refusedOn s n f ≡ s
+stays : (s : List ℕ) (n : ℕ) (f : Frame) → changesListed n f ≡ false → refusedOn s n f ≡ s
 unfolding refusedOn
-unlisted s n (broadcast cc time altitude spin phase) h = rw h
-unlisted s n (command cc id sequence parameters) h = rw h
-unlisted s n (tick r) h = refl
-unlisted s n (sample t x) h = refl
-unlisted s n (poll cc) h = refl
-unlisted s n (status cc low flags) h = refl
-unlisted s n (analogue bytes) h = refl
-unlisted s n faulty h = refl
+stays s n f h = ap (changedOn s) (unlisted (change n (countOf f)) h)
 
 nothing-else : (s f o : List ℕ) → (stepOf s f o .reply ≡ 0 → ⊥) → changesListed (stepOf s f o .reply) (frameOf f) ≡ false
     → stepOf s f o .state ≡ s
@@ -145,7 +139,7 @@ unfolding stepOf
 nothing-else s f o h l = at (fit s) refl
   where
     at : (b : Bool) → fit s ≡ b → stepOf s f o .state ≡ s
-    at true e = left-by s f o e h ∙ unlisted s (stepOf s f o .reply) (frameOf f) l
+    at true e = left-by s f o e h ∙ stays s (stepOf s f o .reply) (frameOf f) l
     at false e = rw e
 
 -- ---- starting

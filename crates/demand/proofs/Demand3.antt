@@ -1,7 +1,7 @@
 -- Demand 3 about calls: each call on lent bytes is one of document 01's, so what is proved of those holds of the bytes.
 -- Assumes nothing.
 use mathlib.Core.Path.{_≡_, refl, sym, ap, _∙_, subst}
-use mathlib.Core.Bool.{Bool, true, false, cond, _&&_, false≢true}
+use mathlib.Core.Bool.{Bool, true, false, cond, _&&_}
 use mathlib.Core.List.{List, [], _∷_, map}
 use Prim.Native.Nat.{ℕ, _+_, _%_, _≤_}
 use borrow.Author.Tests.{eqb-true, le-leb}
@@ -9,7 +9,7 @@ use lib.Dec.{eqb}
 use lib.ListN.{length, take, drop}
 use lib.Seq.{take-at}
 use Rattle.wire.specs.Wire.{be16, put}
-use Rattle.paper.specs.Frames.{Frame, broadcast, command, tick, sample, poll, status, analogue, faulty, frameOf}
+use Rattle.paper.specs.Frames.{Frame, frameOf}
 use Rattle.paper.specs.Streams.{listed}
 use Rattle.paper.specs.Controller.{Controller, start}
 use Rattle.paper.specs.Step.{Outcome, step}
@@ -19,6 +19,7 @@ use Rattle.paper.specs.History.{isAccepted}
 use Rattle.delivery.specs.Demands as delivery
 use Rattle.delivery.specs.Demands.{isPoll, polled, pollOutputs, Fate, Arrival, of}
 use Rattle.paper.proofs.Kept.{Kept, kept-start, kept-step, written, writes}
+use Rattle.delivery.proofs.Polled.{of-polls}
 use Rattle.delivery.proofs.Handing.{AtLength, handed-length}
 use Rattle.delivery.proofs.Demand3.{demand3}
 use Rattle.state.specs.Layout.{stateBytes}
@@ -43,14 +44,7 @@ front o v n h = take-at v (drop (0 + length v) o) n h
 -- ---- the controller's calls
 
 polls-written : (f : Frame) → isPoll f ≡ true → written f ≡ 126
-polls-written (broadcast cc time altitude spin phase) e = absurd (false≢true e)
-polls-written (command cc id sequence parameters) e = absurd (false≢true e)
-polls-written (tick r) e = absurd (false≢true e)
-polls-written (sample s x) e = absurd (false≢true e)
-polls-written (poll cc) e = refl
-polls-written (status cc low flags) e = absurd (false≢true e)
-polls-written (analogue bytes) e = absurd (false≢true e)
-polls-written faulty e = absurd (false≢true e)
+polls-written = of-polls (λ f. written f ≡ 126) (λ cc. refl)
 
 -- one call more
 one-more : (c : Controller) → Kept c → (f o : List ℕ) (rest : List (List ℕ))

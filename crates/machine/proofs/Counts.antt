@@ -14,7 +14,7 @@ use borrow.Author.Tests.{eqb-true, eqb-false}
 use Rattle.wire.specs.Wire.{be16, bytes16, put}
 use Rattle.wire.proofs.Runs.{length-put, getD-put-before, getD-put-inside, getD-put-after, be16-put-before, be16-put-after, be16-put-same, part-put-same}
 use Rattle.paper.specs.Frames.{Channel, cdmuA, cdmuB}
-use Rattle.paper.specs.Controller.{Both, raised, raised8, raisedAt, Tallies, Controller, withTallies, withHoused}
+use Rattle.paper.specs.Controller.{raised, raised8, raisedAt, Tallies, withPackets, withTelemetry, withCommands, withError, withLast, Controller, withTallies, withHoused}
 use Rattle.paper.specs.Acts.{noted}
 use Rattle.paper.specs.Step.{lateHeard, erred}
 use Rattle.state.specs.Layout.{commandsAt, broadcastsAt, packetsAt, telemetryAt, errorsAt, codeAt, sequenceAt, idAt, firstAt, waitingAt, housedAt, openAt, stateBytes}
@@ -24,61 +24,6 @@ use Rattle.state.proofs.Apart.{Same, put-same, be16-same, fit-same, clock-apart
 use Rattle.machine.specs.Entered.{raisedOn}
 use Rattle.machine.specs.Obeyed.{notedOn, erredOn}
 use Rattle.machine.proofs.Same.{view-tallied, fit-tallied}
-
--- ---- one part of the tallies changed, the others as they were
-
-abbrev pub withPackets : Tallies → Both → Tallies
-withPackets t x =
-    record {
-      broadcasts = t .broadcasts;
-      packets = x;
-      telemetry = t .telemetry;
-      commands = t .commands;
-      errors = t .errors;
-      code = t .code;
-      sequence = t .sequence;
-      id = t .id;
-    }
-
-abbrev pub withTelemetry : Tallies → Both → Tallies
-withTelemetry t x =
-    record {
-      broadcasts = t .broadcasts;
-      packets = t .packets;
-      telemetry = x;
-      commands = t .commands;
-      errors = t .errors;
-      code = t .code;
-      sequence = t .sequence;
-      id = t .id;
-    }
-
-abbrev pub withCommands : Tallies → ℕ → Tallies
-withCommands t x =
-    record {
-      broadcasts = t .broadcasts;
-      packets = t .packets;
-      telemetry = t .telemetry;
-      commands = x;
-      errors = t .errors;
-      code = t .code;
-      sequence = t .sequence;
-      id = t .id;
-    }
-
--- error count and code, sequence and id
-abbrev pub withMarks : Tallies → (errors code sequence id : ℕ) → Tallies
-withMarks t errors code sequence id =
-    record {
-      broadcasts = t .broadcasts;
-      packets = t .packets;
-      telemetry = t .telemetry;
-      commands = t .commands;
-      errors = errors;
-      code = code;
-      sequence = sequence;
-      id = id;
-    }
 
 -- ---- a count that is raised: one of the seven that stand at 27, 29 and so on
 
@@ -219,7 +164,7 @@ module _ (s : List ℕ) (f : Fit s) (at : ℕ) (v : List ℕ) (low : 41 ≤ at) 
   marked-view : {e c q n : ℕ} → getD (put s at v) errorsAt 0 ≡ e → getD (put s at v) codeAt 0 ≡ c
       → getD (put s at v) sequenceAt 0 ≡ q → getD (put s at v) idAt 0 ≡ n
       → view (put s at v)
-      ≡ withTallies (view s) (withMarks (view s .tallies) e c q n)
+      ≡ withTallies (view s) (withLast (withError (view s .tallies) e c) q n)
   unfolding view talliesIn
   marked-view e c q n =
       let p : Same (put s at v) s 27 41 = put-same s at v (omega arith) 27 41 (inr low) in
@@ -275,9 +220,7 @@ module _ (s : List ℕ) (f : Fit s) (cc : Channel) where
         (getD-put-inside twice sequenceAt low low-fits 0 (omega arith))
         (getD-put-inside twice sequenceAt low low-fits 1 (omega arith))
         ∙ ap
-        (λ (c : Controller).
-        withTallies c (withMarks (c .tallies) (c .tallies .errors) (c .tallies .code) (sequence % 256) (id % 256)))
-        twice-view
+        (λ (c : Controller). withTallies c (withLast (c .tallies) (sequence % 256) (id % 256))) twice-view
 
     pub noted-fit : Fit (notedOn s cc id sequence)
     unfolding notedOn
@@ -306,9 +249,7 @@ module _ (s : List ℕ) (f : Fit s) (cc : Channel) where
         (getD-put-after once errorsAt marks marks-fit sequenceAt (omega arith))
         (getD-put-after once errorsAt marks marks-fit idAt (omega arith))
         ∙ ap
-        (λ (c : Controller).
-        withTallies c (withMarks (c .tallies) (raised8 (getD s errorsAt 0)) n (c .tallies .sequence) (c .tallies .id)))
-        (packets-view s f cc)
+        (λ (c : Controller). withTallies c (withError (c .tallies) (raised8 (getD s errorsAt 0)) n)) (packets-view s f cc)
 
     pub erred-fit : Fit (erredOn s cc n)
     unfolding erredOn
@@ -347,9 +288,7 @@ module _ (s : List ℕ) (f : Fit s) (x : List ℕ) (e : length x ≡ 58) where
         impact = impact i;
         tallies = tallies i;
         housed = housed i;
-        opened = opened i;
-        counts = counts i;
-        queue = queue i;
+        streams = record { opened = opened i; counts = counts i; queue = queue i };
       }
 
   pub housed-fit : Fit (put s housedAt x)

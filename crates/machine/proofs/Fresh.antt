@@ -140,9 +140,7 @@ module _ (x : List ℕ) (z : Blank x) where
               id = byte 44 (omega arith) (omega arith) i;
             };
         housed = housed i;
-        opened = opened i;
-        counts = counts i;
-        queue = queue i;
+        streams = record { opened = opened i; counts = counts i; queue = queue i };
       }
 
 -- ---- what starting leaves

@@ -10,17 +10,18 @@ use lib.Dec.{eqb, ltb}
 use lib.ListN.{length, drop}
 use lib.Seq.{take-all}
 use Rattle.wire.specs.Wire.{put, part}
-use Rattle.paper.specs.Frames.{Channel, Frame, broadcast, command, tick, sample, poll, status, analogue, faulty}
+use Rattle.paper.specs.Frames.{Channel, Frame, broadcast, command, poll, status, analogue, faulty}
 use Rattle.paper.specs.Clock.{seconds}
 use Rattle.paper.specs.Commands.{Decoded, refusedWith, decoded}
+use Rattle.paper.specs.Streams.{hk}
 use Rattle.paper.specs.Acts.{answer}
-use Rattle.paper.specs.Step.{Lent, holds, noRoom, reply, isError}
+use Rattle.paper.specs.Step.{holds, crowded, queues, reply, isError, Count, ofBroadcasts, ofCommands, ofPolls, ofNone, countOf, unchanged, lateOn, errorOn, change}
 use Rattle.state.specs.Layout.{housedAt, broadcastsAt}
 use Rattle.state.specs.View.{view}
 use Rattle.state.specs.Told.{Told, told, replyTo, handled, Res, res, answered}
 use Rattle.machine.specs.Entered.{raisedOn}
 use Rattle.machine.specs.Obeyed.{erredOn}
-use Rattle.machine.specs.Called.{actedOn, refusedOn, repliedOn}
+use Rattle.machine.specs.Called.{actedOn, changedOn, refusedOn, repliedOn}
 
 -- what is told, with an output that stays
 abbrev beside : List ℕ → Told → Res
@@ -60,7 +61,7 @@ module _ (s o : List ℕ) (h : 126 ≤ length o) where
       up = raisedOn s (broadcastsAt cc)
 
       at : (b : Bool) → beside o (cond (eqb (cond b 5 0) 0) (told 0 (actedOn s f)) (told (cond b 5 0) up))
-          ≡ cond (eqb (cond b 5 0) 0) (res 0 (put o 0 []) (actedOn s f)) (res (cond b 5 0) o (cond (eqb (cond b 5 0) 5) up s))
+          ≡ cond (eqb (cond b 5 0) 0) (res 0 (put o 0 []) (actedOn s f)) (res (cond b 5 0) o (changedOn s (cond (eqb (cond b 5 0) 5) (lateOn cc) unchanged)))
       at true = refl
       at false = refl
 
@@ -73,7 +74,7 @@ module _ (s o : List ℕ) (h : 126 ≤ length o) where
       ap (beside o) e
       ∙ rw (le-ltb (length o) 126 h)
       (at (eqb (refusedWith (decoded id parameters)) 2) (eqb (refusedWith (decoded id parameters)) 3)
-      (eqb (refusedWith (decoded id parameters)) 4) (noRoom (command cc id sequence parameters) (view s)))
+      (eqb (refusedWith (decoded id parameters)) 4) (queues (decoded id parameters) && crowded (view s) hk))
     where
       f : Frame
       f = command cc id sequence parameters
@@ -84,7 +85,7 @@ module _ (s o : List ℕ) (h : 126 ≤ length o) where
       at : (a b c d : Bool)
           → beside o (cond (eqb (told-by a b c d) 0) (told 0 (actedOn s f)) (told (told-by a b c d) (erredOn s cc (told-by a b c d))))
           ≡ cond (eqb (told-by a b c d) 0) (res 0 (put o 0 []) (actedOn s f))
-          (res (told-by a b c d) o (cond (isError (told-by a b c d)) (erredOn s cc (told-by a b c d)) s))
+          (res (told-by a b c d) o (changedOn s (cond (isError (told-by a b c d)) (errorOn cc (told-by a b c d)) unchanged)))
       at true b c d = refl
       at false true c d = refl
       at false false true d = refl
@@ -119,11 +120,10 @@ housed-bytes f h = take-all 58 (drop 1 f) h
 -- 8 changes nothing, whatever the frame
 pub short-stays : (s : List ℕ) (f : Frame) → s ≡ refusedOn s 8 f
 unfolding refusedOn
-short-stays s (broadcast cc time altitude spin phase) = refl
-short-stays s (command cc id sequence parameters) = refl
-short-stays s (tick r) = refl
-short-stays s (sample t x) = refl
-short-stays s (poll cc) = refl
-short-stays s (status cc low flags) = refl
-short-stays s (analogue bytes) = refl
-short-stays s faulty = refl
+short-stays s f = at (countOf f)
+  where
+    at : (k : Count) → s ≡ changedOn s (change 8 k)
+    at (ofBroadcasts cc) = refl
+    at (ofCommands cc) = refl
+    at (ofPolls cc) = refl
+    at ofNone = refl

@@ -25,10 +25,10 @@ use Rattle.paper.specs.Packets.{dataOf, datastream, modeByte, filled}
 use Rattle.paper.specs.Controller.{raised, raised8, stampNow}
 use Rattle.paper.specs.Housekeeping.{housekeepingPacket}
 use Rattle.paper.specs.Acts.{impactPacket}
-use Rattle.paper.specs.Step.{holds, reply, isError}
+use Rattle.paper.specs.Step.{holds, reply, countOf, change}
 use Rattle.paper.proofs.Table.{carried-small, sampled-carried}
-use Rattle.paper.proofs.Shapes.{Rows, through}
-use Rattle.paper.proofs.Refusals.{Passed, passed}
+use Rattle.paper.proofs.Shapes.{Shaped, shaped}
+use Rattle.paper.proofs.Refusals.{Passed, passed, any-change}
 use Rattle.state.specs.Layout.{timeAt, mAt, nibbleAt, flagAt, impactTimeAt, windowAt, placeAt, furtherAt, commandsAt, broadcastsAt, packetsAt, telemetryAt, errorsAt, sequenceAt, firstAt, waitingAt, housedAt, streams, countAt, openAt, samplesAt, staysOpen, ringAt, slotAt, stateBytes}
 use Rattle.state.specs.View.{clockIn, standingIn, impactIn, samplesIn, heldIn, view}
 use Rattle.state.specs.Range.{Fit, fit}
@@ -43,7 +43,7 @@ use Rattle.machine.specs.Ticked.{countedOn, takenOn, declaredOn, detecte
 use Rattle.machine.specs.Sampled.{stampedOn, storedOn, keptOn, sampledOn}
 use Rattle.machine.specs.Obeyed.{notedOn, erredOn, commandedOn, obeyedOn, performedOn}
 use Rattle.machine.specs.Polled.{polledOn}
-use Rattle.machine.specs.Called.{actedOn, refusedOn, repliedOn, stepOf, startOf}
+use Rattle.machine.specs.Called.{actedOn, changedOn, refusedOn, repliedOn, stepOf, startOf}
 use Rattle.machine.proofs.Entries.{length-noRing}
 use Rattle.machine.proofs.Counts.{broadcasts-at, packets-at, telemetry-at}
 use Rattle.machine.proofs.Ticks.{counted-fit}
@@ -318,18 +318,7 @@ started-past s w =
 
 -- ---- a frame that is accepted, and one that is refused
 
--- the bytes of a frame 07 are as many as are kept
-abbrev pub Shaped : Frame → Type 0
-Shaped (broadcast cc time altitude spin phase) = Unit {0}
-Shaped (command cc id sequence parameters) = Unit {0}
-Shaped (tick r) = Unit {0}
-Shaped (sample t x) = Unit {0}
-Shaped (poll cc) = Unit {0}
-Shaped (status cc low flags) = Unit {0}
-Shaped (analogue x) = length x ≡ 58
-Shaped faulty = Unit {0}
-
-pub acted-past : (s : List ℕ) (f : Frame) (room : ℕ) → Fit s → Shaped f → Passed (view s) f room → Past (actedOn s f) s
+pub acted-past : (s : List ℕ) (f : Frame) (room : ℕ) → Fit s → Shaped (λ x. Unit {0}) f → Passed (view s) f room → Past (actedOn s f) s
 unfolding actedOn
 acted-past s (broadcast cc time altitude spin phase) n f h p =
     past-then (f .whole) (heard-past s cc time altitude spin phase (f .whole)) (moved-past _)
@@ -346,31 +335,11 @@ acted-past s faulty n f h p = past-refl s
 
 pub refused-past : (s : List ℕ) (n : ℕ) (f : Frame) → stateBytes ≤ length s → Past (refusedOn s n f) s
 unfolding refusedOn
-refused-past s n (broadcast cc time altitude spin phase) w =
-    past-either (eqb n 5) (raised-past s (broadcastsAt cc) (omega (arith, broadcasts-at cc)) w) (past-refl s)
-refused-past s n (command cc id sequence parameters) w = past-either (isError n) (erred-past s cc n w) (past-refl s)
-refused-past s n (tick r) w = past-refl s
-refused-past s n (sample t x) w = past-refl s
-refused-past s n (poll cc) w = past-refl s
-refused-past s n (status cc low flags) w = past-refl s
-refused-past s n (analogue x) w = past-refl s
-refused-past s n faulty w = past-refl s
+refused-past s n f w =
+    any-change (λ x. Past (changedOn s x) s) (past-refl s)
+    (λ cc. raised-past s (broadcastsAt cc) (omega (arith, broadcasts-at cc)) w) (λ cc m. erred-past s cc m w) (change n (countOf f))
 
 -- ---- one call
-
-pub shaped : (f : List ℕ) → Shaped (frameOf f)
-shaped f =
-    through Shaped f
-    (record {
-      broadcasts = λ cc. tt;
-      commands = λ cc. tt;
-      ticks = tt;
-      samples = tt;
-      polls = λ cc. tt;
-      statuses = λ cc. tt;
-      analogues = λ e. omega (arith, length-drop 1 f);
-      none = tt;
-    })
 
 pub call-past : (s f o : List ℕ) → Past (stepOf s f o .state) s
 unfolding stepOf repliedOn
@@ -379,7 +348,7 @@ call-past s f o =
     (λ e.
     let fits = fit-true s e in
     either (λ (r : Res). Past (r .state) s) (eqb (reply (holds (view s)) (frameOf f) (length o)) 0) _ _
-    (λ z. acted-past s (frameOf f) (length o) fits (shaped f) (passed (view s) (frameOf f) (length o) (eqb-true _ _ z)))
+    (λ z. acted-past s (frameOf f) (length o) fits (shaped (λ x. Unit {0}) f tt) (passed (view s) (frameOf f) (length o) (eqb-true _ _ z)))
     (λ z. refused-past s _ (frameOf f) (fits .whole)))
     (λ e. past-refl s)
 

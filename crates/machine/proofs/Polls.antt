@@ -5,7 +5,7 @@ use mathlib.Core.List.{List}
 use Prim.Native.Nat.{ℕ, _+_, _-_, _<_}
 use lib.ListN.{getD}
 use Rattle.paper.specs.Frames.{Channel}
-use Rattle.paper.specs.Controller.{Controller, raisedAt, withStreams, withTallies}
+use Rattle.paper.specs.Controller.{raisedAt, withTelemetry, Controller, withTallies}
 use Rattle.paper.specs.Acts.{polled, polledFrom}
 use Rattle.state.specs.Layout.{telemetryAt, firstAt, waitingAt}
 use Rattle.state.specs.View.{pieceIn, piecesIn, view}
@@ -17,21 +17,10 @@ use Rattle.machine.proofs.Counts.{telemetry-at, raised-fit, telemetry-v
 
 -- a channel's telemetry count raised
 abbrev raisedIn : Controller → Channel → Controller
-raisedIn c cc =
-    withTallies c
-    (record {
-      broadcasts = c .tallies .broadcasts;
-      packets = c .tallies .packets;
-      telemetry = raisedAt cc (c .tallies .telemetry);
-      commands = c .tallies .commands;
-      errors = c .tallies .errors;
-      code = c .tallies .code;
-      sequence = c .tallies .sequence;
-      id = c .tallies .id;
-    })
+raisedIn c cc = withTallies c (withTelemetry (c .tallies) (raisedAt cc (c .tallies .telemetry)))
 
 pub polled-view : (s : List ℕ) (cc : Channel) → Fit s → 0 < getD s waitingAt 0
-    → (view (polledOn s cc) ≡ polledFrom (view s) cc (view s .queue)) × Fit (polledOn s cc)
+    → (view (polledOn s cc) ≡ polledFrom (view s) cc (view s .streams .queue)) × Fit (polledOn s cc)
 unfolding polledOn polledFrom polled
 polled-view s cc f some =
     let e = waits-first s f some in

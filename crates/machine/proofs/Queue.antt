@@ -19,7 +19,7 @@ use Rattle.paper.specs.Commands.{names}
 use Rattle.paper.specs.Streams.{pieces}
 use Rattle.paper.specs.Packets.{chunks, cut}
 use Rattle.paper.specs.Queue.{Piece, piece, wrap, numbered, after, without}
-use Rattle.paper.specs.Controller.{nothingOpen, withStreams, queued}
+use Rattle.paper.specs.Controller.{nothingOpen, withQueue, withStreams, queued}
 use Rattle.paper.specs.Acts.{cleared}
 use Rattle.paper.specs.Queue as paper
 use Rattle.state.specs.Layout.{firstAt, waitingAt, housedAt, streams, countAt, openAt, ringAt, slotsAt, slotAt, stateBytes}
@@ -140,7 +140,7 @@ module _ (s : List ℕ) (t k : ℕ) (x : List ℕ) (fit : Fit s) (known : t < st
   -- the queue: the packet's pieces stand behind those that waited
   pub queued-queue :
       piecesIn (queuedOn s t k x) (getD (queuedOn s t k x) firstAt 0) (getD (queuedOn s t k x) waitingAt 0)
-      ≡ view s .queue ++ numbered wrap t (countIn s t) (chunks 118 k x)
+      ≡ view s .streams .queue ++ numbered wrap t (countIn s t) (chunks 118 k x)
   unfolding view countIn
   queued-queue =
       let q = queued-bytes in
@@ -150,7 +150,7 @@ module _ (s : List ℕ) (t k : ℕ) (x : List ℕ) (fit : Fit s) (known : t < st
 
   -- the stream's count goes on, and no other
   pub queued-count : (u : ℕ)
-      → countIn (queuedOn s t k x) u ≡ paper.put (view s .counts) t (after wrap (view s .counts t) (chunks 118 k x)) u
+      → countIn (queuedOn s t k x) u ≡ paper.put (view s .streams .counts) t (after wrap (view s .streams .counts t) (chunks 118 k x)) u
   unfolding view paper.put
   queued-count u = at (eqb t u) refl
     where
@@ -173,7 +173,7 @@ module _ (s : List ℕ) (t k : ℕ) (x : List ℕ) (fit : Fit s) (known : t < st
           count-where (queuedOn s t k x) s u (λ l. beside l (decLt u t) (eqb-false t u e))
 
   pub queued-counts :
-      countIn (queuedOn s t k x) ≡ paper.put (view s .counts) t (after wrap (view s .counts t) (chunks 118 k x))
+      countIn (queuedOn s t k x) ≡ paper.put (view s .streams .counts) t (after wrap (view s .streams .counts t) (chunks 118 k x))
   queued-counts = fun-ext queued-count
 
   pub queued-fit : Fit (queuedOn s t k x)
@@ -185,8 +185,12 @@ module _ (s : List ℕ) (t k : ℕ) (x : List ℕ) (fit : Fit s) (known : t < st
   -- all of it
   pub queued-view :
       view (queuedOn s t k x)
-      ≡ withStreams (view s) (view s .opened) (paper.put (view s .counts) t (after wrap (view s .counts t) (chunks 118 k x)))
-      (view s .queue ++ numbered wrap t (view s .counts t) (chunks 118 k x))
+      ≡ withStreams (view s)
+      (record {
+        opened = view s .streams .opened;
+        counts = paper.put (view s .streams .counts) t (after wrap (view s .streams .counts t) (chunks 118 k x));
+        queue = view s .streams .queue ++ numbered wrap t (view s .streams .counts t) (chunks 118 k x);
+      })
   unfolding view
   queued-view =
       let q = queued-bytes in
@@ -196,7 +200,7 @@ module _ (s : List ℕ) (t k : ℕ) (x : List ℕ) (fit : Fit s) (known : t < st
       streams-same r s fit (omega (arith, q .kept)) (same-within 0 firstAt (q .below) (omega arith) (omega arith))
       (same-within housedAt (countAt 0) (q .between) (omega arith) (omega arith))
       (same-within ringAt slotsAt (q .above) (omega arith) (omega arith))
-      ∙ (λ i. withStreams (view s) (opened i) (queued-counts i) (queued-queue i))
+      ∙ (λ i. withStreams (view s) (record { opened = opened i; counts = queued-counts i; queue = queued-queue i }))
 
 -- the paper's packet of a stream, where the bytes lent are its pieces
 pub queued-packet : (s : List ℕ) (t : ℕ) (p x : List ℕ) → Fit s → t < streams → getD s waitingAt 0 + pieces t ≤ 48
@@ -207,13 +211,13 @@ queued-packet s t p x fit known room long e = queued-view s t (pieces t) p fit k
 
 -- ---- the first piece leaves
 
-pub queue-length : (s : List ℕ) → length (view s .queue) ≡ getD s waitingAt 0
+pub queue-length : (s : List ℕ) → length (view s .streams .queue) ≡ getD s waitingAt 0
 unfolding view
 queue-length s = length-pieces s (getD s firstAt 0) (getD s waitingAt 0)
 
 -- where a piece waits, it stands in the first slot, and the others behind it
 pub waits-first : (s : List ℕ) → Fit s → 0 < getD s waitingAt 0
-    → view s .queue ≡ pieceIn s (getD s firstAt 0) ∷ piecesIn s (getD s firstAt 0 + 1) (getD s waitingAt 0 - 1)
+    → view s .streams .queue ≡ pieceIn s (getD s firstAt 0) ∷ piecesIn s (getD s firstAt 0 + 1) (getD s waitingAt 0 - 1)
 unfolding view piecesIn
 waits-first s fit h =
     let e : getD s waitingAt 0 ≡ suc (getD s waitingAt 0 - 1) = omega arith in
@@ -221,14 +225,14 @@ waits-first s fit h =
     ap (piecesIn s (getD s firstAt 0)) e ∙ rw f
 
 -- a queue that has a first piece has one that waits
-pub some-waits : (s : List ℕ) (p : Piece (List ℕ)) (rest : List (Piece (List ℕ))) → view s .queue ≡ p ∷ rest
+pub some-waits : (s : List ℕ) (p : Piece (List ℕ)) (rest : List (Piece (List ℕ))) → view s .streams .queue ≡ p ∷ rest
     → 0 < getD s waitingAt 0
 some-waits s p rest e =
     let l : getD s waitingAt 0 ≡ suc (length rest) = sym (queue-length s) ∙ ap length e in
     omega arith
 
 -- so it is the piece in the first slot
-pub first-piece : (s : List ℕ) → Fit s → (p : Piece (List ℕ)) (rest : List (Piece (List ℕ))) → view s .queue ≡ p ∷ rest
+pub first-piece : (s : List ℕ) → Fit s → (p : Piece (List ℕ)) (rest : List (Piece (List ℕ))) → view s .streams .queue ≡ p ∷ rest
     → p ≡ pieceIn s (getD s firstAt 0)
 first-piece s fit p rest e =
     let f = waits-first s fit (some-waits s p rest e) in
@@ -261,8 +265,8 @@ module _ (s : List ℕ) (fit : Fit s) where
       fit-same (droppedOn s) s fit (omega (arith, dropped-whole)) (dropped-same 0 firstAt (inr (omega arith)))
       (omega (arith, dropped-first)) (omega (arith, dropped-waits))
 
-  pub dropped-view : (p : Piece (List ℕ)) (rest : List (Piece (List ℕ))) → view s .queue ≡ p ∷ rest
-      → view (droppedOn s) ≡ withStreams (view s) (view s .opened) (view s .counts) rest
+  pub dropped-view : (p : Piece (List ℕ)) (rest : List (Piece (List ℕ))) → view s .streams .queue ≡ p ∷ rest
+      → view (droppedOn s) ≡ withStreams (view s) (withQueue (view s .streams) rest)
   unfolding view
   dropped-view p rest e =
       let r : List ℕ = droppedOn s in
@@ -276,7 +280,7 @@ module _ (s : List ℕ) (fit : Fit s) where
       let counts : countIn r ≡ countIn s = counts-same r s (dropped-same (countAt 0) (openAt 0) (inl (omega arith))) in
       streams-same r s fit (omega (arith, dropped-whole)) (dropped-same 0 firstAt (inr (omega arith)))
       (dropped-same housedAt (countAt 0) (inl (omega arith))) (dropped-same ringAt slotsAt (inl (omega arith)))
-      ∙ (λ i. withStreams (view s) (opened i) (counts i) (queue i))
+      ∙ (λ i. withStreams (view s) (record { opened = opened i; counts = counts i; queue = queue i }))
 
 -- ---- pieces of named streams go
 
@@ -521,4 +525,4 @@ module _ (s : List ℕ) (mask : ℕ) (fit : Fit s) where
       counts-same r s (same-within (countAt 0) (openAt 0) (q .between) (omega arith) (omega arith)) in
       streams-same r s fit (omega (arith, q .kept)) (q .under 0 firstAt (omega arith))
       (same-within housedAt (countAt 0) (q .between) (omega arith) (omega arith)) (q .ring)
-      ∙ (λ i. withStreams (view s) (fun-ext cleared-open i) (counts i) (queue i))
+      ∙ (λ i. withStreams (view s) (record { opened = fun-ext cleared-open i; counts = counts i; queue = queue i }))

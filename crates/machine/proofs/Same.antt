@@ -15,7 +15,7 @@ use Rattle.paper.specs.Mode.{Standing}
 use Rattle.paper.specs.Impact.{Impact}
 use Rattle.paper.specs.Controller.{Tallies, Controller, withClock, withStanding, withImpact, withTallies}
 use Rattle.state.specs.Layout.{mAt, nibbleAt, flagAt, windowAt, placeAt, furtherAt, firstAt, waitingAt, ringAt, slotsAt, stateBytes}
-use Rattle.state.specs.View.{clockIn, standingIn, impactIn, talliesIn, piecesIn, view}
+use Rattle.state.specs.View.{clockIn, standingIn, impactIn, talliesIn, piecesIn, streamsIn, view}
 use Rattle.state.specs.Range.{Fit}
 use Rattle.state.proofs.Apart.{Same, Outside, put-same, clock-apart, standing-apart, impact-apart, tallies-apart, same-sym, same-within, be16-same, clock-same, standing-same, impact-same, tallies-same, counts-same, opened-same, housed-same, pieces-same}
 
@@ -30,9 +30,7 @@ headed c clock standing impact tallies =
       impact = impact;
       tallies = tallies;
       housed = c .housed;
-      opened = c .opened;
-      counts = c .counts;
-      queue = c .queue;
+      streams = c .streams;
     }
 
 module _ (x y : List ℕ) (f : Fit y) (whole : stateBytes ≤ length x) (p : Same x y firstAt ringAt) where
@@ -43,14 +41,19 @@ module _ (x y : List ℕ) (f : Fit y) (whole : stateBytes ≤ length x) (p : Sam
       ∙ ap (λ (n : ℕ). piecesIn y n (getD x waitingAt 0)) (p .byte firstAt (omega arith) (omega arith))
       ∙ ap (piecesIn y (getD y firstAt 0)) (p .byte waitingAt (omega arith) (omega arith))
 
+  pub streams-kept : Same x y slotsAt stateBytes → streamsIn x ≡ streamsIn y
+  streams-kept q =
+      let opened = opened-same x y whole (f .whole) (same-within _ _ p (omega arith) (omega arith)) in
+      let counts = counts-same x y (same-within _ _ p (omega arith) (omega arith)) in
+      let queue = queue-kept q in
+      λ j. record { opened = opened j; counts = counts j; queue = queue j }
+
   pub view-headed : Same x y slotsAt stateBytes → {k : Clock} {g : Standing} {i : Impact} {n : Tallies} → clockIn x ≡ k
       → standingIn x ≡ g → impactIn x ≡ i → talliesIn x ≡ n → view x ≡ headed (view y) k g i n
   unfolding view
   view-headed q clock standing impact tallies =
       let housed = housed-same x y whole (f .whole) (same-within _ _ p (omega arith) (omega arith)) in
-      let opened = opened-same x y whole (f .whole) (same-within _ _ p (omega arith) (omega arith)) in
-      let counts = counts-same x y (same-within _ _ p (omega arith) (omega arith)) in
-      let queue = queue-kept q in
+      let streams = streams-kept q in
       λ j.
       record {
         clock = clock j;
@@ -58,9 +61,7 @@ module _ (x y : List ℕ) (f : Fit y) (whole : stateBytes ≤ length x) (p : Sam
         impact = impact j;
         tallies = tallies j;
         housed = housed j;
-        opened = opened j;
-        counts = counts j;
-        queue = queue j;
+        streams = streams j;
       }
 
   -- the ranges of the numbers in front make the bytes fit

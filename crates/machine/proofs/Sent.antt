@@ -27,8 +27,8 @@ pub crowded-bytes : (s : List ℕ) (t : ℕ) → Fit s → ltb 48 (getD s waitin
 crowded-bytes s t f = at (ltb 48 (getD s waitingAt 0 + pieces t)) refl
   where
     at : (b : Bool) → ltb 48 (getD s waitingAt 0 + pieces t) ≡ b → b ≡ crowded (view s) t
-    at true e = sym (lt-ltb (48 - length (view s .queue)) (pieces t) (omega (arith, queue-length s, f .waiting, ltb-true 48 (getD s waitingAt 0 + pieces t) e)))
-    at false e = sym (le-ltb (48 - length (view s .queue)) (pieces t) (omega (arith, queue-length s, f .waiting, ltb-false 48 (getD s waitingAt 0 + pieces t) e)))
+    at true e = sym (lt-ltb (48 - length (view s .streams .queue)) (pieces t) (omega (arith, queue-length s, f .waiting, ltb-true 48 (getD s waitingAt 0 + pieces t) e)))
+    at false e = sym (le-ltb (48 - length (view s .streams .queue)) (pieces t) (omega (arith, queue-length s, f .waiting, ltb-false 48 (getD s waitingAt 0 + pieces t) e)))
 
 -- where it is not crowded, there is room
 pub free-room : (s : List ℕ) (t : ℕ) → Fit s → crowded (view s) t ≡ false → Free s t

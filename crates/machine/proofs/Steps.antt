@@ -8,7 +8,7 @@ use Prim.Native.Nat.{ℕ, _+_, _-_, _≤_, _<_}
 use native.Mathlib.Omega.{arith}
 use borrow.Author.Tests.{eqb-true, eqb-false, ltb-false, not-false, le-leb}
 use lib.Dec.{eqb, leb, ltb}
-use lib.ListN.{length, getD, drop, length-drop}
+use lib.ListN.{length, getD, drop}
 use lib.Seq.{getD-drop}
 use Rattle.wire.specs.Wire.{be16, put}
 use Rattle.paper.specs.Frames.{Channel, Frame, broadcast, command, tick, sample, poll, status, analogue, faulty, frameOf}
@@ -16,13 +16,13 @@ use Rattle.paper.specs.Commands.{Request, clear, housekeeping, setMode, Decoded
 use Rattle.paper.specs.Streams.{acc-i, hk, width}
 use Rattle.paper.specs.Controller.{Controller, start}
 use Rattle.paper.specs.Acts.{moved, noted, obeyed, performed, accepted, answer}
-use Rattle.paper.specs.Step.{holds, reply, isError, crowded, queues, lateHeard, erred, refused, Outcome, outcome, replied, step}
+use Rattle.paper.specs.Step.{holds, reply, crowded, queues, countOf, change, changed, refused, Outcome, outcome, replied, step}
 use Rattle.paper.specs.Runs.{runs}
 use Rattle.paper.specs.History.{history, sentBy, Counted}
 use Rattle.paper.proofs.History.{counted}
-use Rattle.paper.proofs.Shapes.{Rows, through}
-use Rattle.paper.proofs.Refusals.{Passed, passed}
-use Rattle.state.specs.Layout.{stateBytes, housedAt, waitingAt, broadcastsAt}
+use Rattle.paper.proofs.Shapes.{Shaped, shaped}
+use Rattle.paper.proofs.Refusals.{Passed, passed, any-change}
+use Rattle.state.specs.Layout.{stateBytes, housedAt, waitingAt}
 use Rattle.state.specs.View.{view}
 use Rattle.state.specs.Range.{Fit, fit}
 use Rattle.state.specs.Fresh.{startedOn}
@@ -30,9 +30,8 @@ use Rattle.state.specs.Told.{res}
 use Rattle.state.specs.Calls.{Bytes, Framed, calls}
 use Rattle.state.proofs.Ranges.{fit-true, true-fit}
 use Rattle.machine.specs.Heard.{heardOn, movedOn}
-use Rattle.machine.specs.Entered.{raisedOn}
-use Rattle.machine.specs.Obeyed.{notedOn, erredOn, performedOn}
-use Rattle.machine.specs.Called.{actedOn, refusedOn, repliedOn, stepOf}
+use Rattle.machine.specs.Obeyed.{notedOn, performedOn}
+use Rattle.machine.specs.Called.{actedOn, changedOn, refusedOn, repliedOn, stepOf}
 use Rattle.machine.specs.Runs.{Agrees, runOf}
 use Rattle.machine.proofs.Queue.{queue-length}
 use Rattle.machine.proofs.Counts.{late-view, late-fit, noted-view, noted-fit, erred-view, erred-fit, housed-view, housed-fit}
@@ -43,33 +42,6 @@ use Rattle.machine.proofs.Sent.{free-room}
 use Rattle.machine.proofs.Samples.{sampled-view}
 use Rattle.machine.proofs.Polls.{polled-view}
 use Rattle.machine.proofs.Fresh.{start-view, start-fit}
-
--- ---- what a frame's bytes say of its lists
-
--- a frame 07 has 58 bytes, and a sample's bytes are bytes
-abbrev pub Shaped : Frame → Type 0
-Shaped (broadcast cc time altitude spin phase) = Unit {0}
-Shaped (command cc id sequence parameters) = Unit {0}
-Shaped (tick r) = Unit {0}
-Shaped (sample t x) = Bytes x
-Shaped (poll cc) = Unit {0}
-Shaped (status cc low flags) = Unit {0}
-Shaped (analogue x) = length x ≡ 58
-Shaped faulty = Unit {0}
-
-pub shaped : (f : List ℕ) → Bytes f → Shaped (frameOf f)
-shaped f b =
-    through Shaped f
-    (record {
-      broadcasts = λ cc. tt;
-      commands = λ cc. tt;
-      ticks = tt;
-      samples = λ i. rw (getD-drop 2 f i 0) (b (2 + i));
-      polls = λ cc. tt;
-      statuses = λ cc. tt;
-      analogues = λ e. omega (arith, length-drop 1 f);
-      none = tt;
-    })
 
 -- ---- what a command's request says of its fields
 
@@ -129,14 +101,14 @@ module _ (s : List ℕ) (f : Fit s) where
       let n : List ℕ = notedOn s c id sequence in
       let seen : view n ≡ noted (view s) c id sequence = noted-view s f c id sequence in
       let waits : getD n waitingAt 0 ≡ getD s waitingAt 0 =
-      sym (queue-length n) ∙ ap (λ (x : Controller). length (x .queue)) seen ∙ queue-length s in
+      sym (queue-length n) ∙ ap (λ (x : Controller). length (x .streams .queue)) seen ∙ queue-length s in
       let done =
       obeyed-view n q (noted-fit s f c id sequence)
       (λ h. let free = free-room s hk f (both-false (queues (request q)) _ (ap (λ (r : Request). queues (request r)) h) room) in omega (arith, waits, free))
       (λ v h. mode-small id parameters v (e ∙ ap request h)) in
       (done .0 ∙ ap (λ (x : Controller). obeyed x q) seen, done .1)
 
-  pub acted-view : (x : Frame) (room : ℕ) → Shaped x → Passed (view s) x room → Holds (actedOn s x) (accepted (view s) x)
+  pub acted-view : (x : Frame) (room : ℕ) → Shaped Bytes x → Passed (view s) x room → Holds (actedOn s x) (accepted (view s) x)
   unfolding actedOn accepted
   acted-view (broadcast c time altitude spin phase) room h p =
       let heard = heard-fit s f c time altitude spin phase in (
@@ -149,7 +121,7 @@ module _ (s : List ℕ) (f : Fit s) where
   acted-view (sample t x) room h p =
       sampled-view s t x f h (not-false _ (p .carries)) (eqb-true (length x) (width t) (not-false _ (p .sized))) (p .ranged) (p .roomy)
   acted-view (poll c) room h p =
-      polled-view s c f (omega (arith, queue-length s, eqb-false (length (view s .queue)) 0 (p .waits)))
+      polled-view s c f (omega (arith, queue-length s, eqb-false (length (view s .streams .queue)) 0 (p .waits)))
   acted-view (status c low flags) room h p = (refl, f)
   acted-view (analogue x) room h p = (housed-view s f x h, housed-fit s f x h)
   acted-view faulty room h p = (refl, f)
@@ -158,22 +130,9 @@ module _ (s : List ℕ) (f : Fit s) where
 
   pub refused-view : (n : ℕ) (x : Frame) → Holds (refusedOn s n x) (refused n x (view s))
   unfolding refusedOn refused
-  refused-view n (broadcast c time altitude spin phase) = at (eqb n 5)
-    where
-      at : (b : Bool) → Holds (cond b (raisedOn s (broadcastsAt c)) s) (cond b (lateHeard (view s) c) (view s))
-      at true = (late-view s f c, late-fit s f c)
-      at false = (refl, f)
-  refused-view n (command c id sequence parameters) = at (isError n)
-    where
-      at : (b : Bool) → Holds (cond b (erredOn s c n) s) (cond b (erred (view s) c n) (view s))
-      at true = (erred-view s f c n, erred-fit s f c n)
-      at false = (refl, f)
-  refused-view n (tick r) = (refl, f)
-  refused-view n (sample t x) = (refl, f)
-  refused-view n (poll c) = (refl, f)
-  refused-view n (status c low flags) = (refl, f)
-  refused-view n (analogue x) = (refl, f)
-  refused-view n faulty = (refl, f)
+  refused-view n x =
+      any-change (λ y. Holds (changedOn s y) (changed y (view s))) (refl, f) (λ c. (late-view s f c, late-fit s f c))
+      (λ c m. (erred-view s f c m, erred-fit s f c m)) (change n (countOf x))
 
 -- ---- one call
 
@@ -192,7 +151,7 @@ steps s f o g b = rw (true-fit s g) (at n refl (eqb n 0) refl)
         → Agrees (cond t (res 0 (put o 0 (answer (view s) x)) (actedOn s x)) (res m o (refusedOn s m x)))
         (cond t (outcome 0 (answer (view s) x) (accepted (view s) x)) (outcome m [] (refused m x (view s)))) o
     at m e true t =
-        let done = acted-view s g x (length o) (shaped f b) (passed (view s) x (length o) (e ∙ eqb-true m 0 t)) in
+        let done = acted-view s g x (length o) (shaped Bytes f (λ i. rw (getD-drop 2 f i 0) (b (2 + i)))) (passed (view s) x (length o) (e ∙ eqb-true m 0 t)) in
         record { reply = refl; out = refl; held = done .0; fits = done .1 }
     at m e false t =
         let left = refused-view s g m x in

@@ -27,28 +27,19 @@ use Rattle.paper.specs.Streams.{acc-i}
 use Rattle.paper.specs.Packets.{modeByte}
 use Rattle.paper.specs.Controller.{Controller, withClock, withImpact, stampNow, queued}
 use Rattle.paper.specs.Acts.{enter, counted, inProximity, last, completes, taken, detected, watched, ended, impactPacket, completed, watching, ticks}
-use Rattle.state.specs.Layout.{mAt, nibbleAt, flagAt, impactTimeAt, impactModeAt, windowAt, placeAt, furtherAt, commandsAt, firstAt, waitingAt, housedAt, countAt, openAt, ringAt, slotsAt, stateBytes}
-use Rattle.state.specs.View.{clockIn, standingIn, collectionOf, ringFrom, impactIn, piecesIn, view}
+use Rattle.state.specs.Layout.{mAt, nibbleAt, flagAt, impactTimeAt, impactModeAt, windowAt, placeAt, furtherAt, commandsAt, firstAt, waitingAt, housedAt, ringAt, slotsAt, stateBytes}
+use Rattle.state.specs.View.{clockIn, standingIn, collectionOf, ringFrom, impactIn, view}
 use Rattle.state.specs.Range.{Fit}
-use Rattle.state.proofs.Apart.{Same, same-sym, same-trans, same-within, put-same, be16-same, be24-same, clock-same, standing-same, ring-same, impact-same, tallies-same, counts-same, opened-same, housed-same, pieces-same}
+use Rattle.state.proofs.Apart.{Same, same-sym, same-trans, same-within, put-same, be16-same, be24-same, clock-same, standing-same, ring-same, impact-same, tallies-same, housed-same}
 use Rattle.machine.specs.Stores.{Free}
 use Rattle.machine.specs.Built.{recordedOn}
 use Rattle.machine.specs.Entered.{enteredOn}
+use Rattle.machine.proofs.Same.{streams-kept}
 use Rattle.machine.proofs.Sent.{recorded-view}
 use Rattle.machine.proofs.Entries.{entered-view, entered-fit, idle-view, idle-fit}
 use Rattle.machine.specs.Ticked.{countedOn, takenOn, declaredOn, detectedOn, watchedOn, completedOn, tickedOn}
 
 -- ---- lists that agree but for some bytes
-
--- the queue, where its numbers and the slots agree
-queue-same : (x y : List ℕ) → stateBytes ≤ length x → stateBytes ≤ length y → Same x y firstAt housedAt
-    → Same x y slotsAt stateBytes
-    → piecesIn x (getD x firstAt 0) (getD x waitingAt 0) ≡ piecesIn y (getD y firstAt 0) (getD y waitingAt 0)
-queue-same x y wx wy p q =
-    let first = p .byte firstAt (omega arith) (omega arith) in
-    let waiting = p .byte waitingAt (omega arith) (omega arith) in
-    pieces-same x y wx wy (getD x firstAt 0) (getD x waitingAt 0) (λ k b. same-within _ _ q (omega arith) (omega arith))
-    ∙ (λ i. piecesIn y (first i) (waiting i))
 
 -- all but the clock
 module _ (x s : List ℕ) (f : Fit s) (whole : stateBytes ≤ length x) (p : Same x s 8 stateBytes) where
@@ -64,10 +55,8 @@ module _ (x s : List ℕ) (f : Fit s) (whole : stateBytes ≤ length x) (p : Sam
             (same-sym (same-within ringAt slotsAt p (omega arith) (omega arith)))) i;
         tallies = tallies-same x s (same-within 27 45 p (omega arith) (omega arith)) i;
         housed = housed-same x s whole (f .whole) (same-within housedAt (housedAt + 58) p (omega arith) (omega arith)) i;
-        opened = opened-same x s whole (f .whole) (same-within (openAt 0) ringAt p (omega arith) (omega arith)) i;
-        counts = counts-same x s (same-within (countAt 0) (openAt 0) p (omega arith) (omega arith)) i;
-        queue =
-            queue-same x s whole (f .whole) (same-within firstAt housedAt p (omega arith) (omega arith))
+        streams =
+            streams-kept x s f whole (same-within firstAt ringAt p (omega arith) (omega arith))
             (same-within slotsAt stateBytes p (omega arith) (omega arith)) i;
       }
 
@@ -97,9 +86,7 @@ module _ (x s : List ℕ) (f : Fit s) (whole : stateBytes ≤ length x) (p : Sam
         impact = impactIn x;
         tallies = tallies-same x s (same-within 27 45 q (omega arith) (omega arith)) i;
         housed = housed-same x s whole (f .whole) (same-within housedAt (housedAt + 58) q (omega arith) (omega arith)) i;
-        opened = opened-same x s whole (f .whole) (same-within (openAt 0) ringAt q (omega arith) (omega arith)) i;
-        counts = counts-same x s (same-within (countAt 0) (openAt 0) q (omega arith) (omega arith)) i;
-        queue = queue-same x s whole (f .whole) (same-within firstAt housedAt q (omega arith) (omega arith)) r i;
+        streams = streams-kept x s f whole (same-within firstAt ringAt q (omega arith) (omega arith)) r i;
       }
 
   impact-only-fit : getD x flagAt 0 ≤ 1 → getD x windowAt 0 < 32 → be16 x placeAt < 512 → be16 x furtherAt ≤ 448 → Fit x

@@ -10,7 +10,7 @@ use Rattle.wire.specs.Wire.{put}
 use Rattle.paper.specs.Frames.{Frame, broadcast, command, tick, sample, poll, status, analogue, faulty, frameOf}
 use Rattle.paper.specs.Commands.{decoded}
 use Rattle.paper.specs.Acts.{answer}
-use Rattle.paper.specs.Step.{holds, reply, isError}
+use Rattle.paper.specs.Step.{holds, reply, countOf, Change, unchanged, lateOn, errorOn, change}
 use Rattle.state.specs.Layout.{stateBytes, housedAt, broadcastsAt}
 use Rattle.state.specs.View.{view}
 use Rattle.state.specs.Range.{fit}
@@ -34,16 +34,15 @@ actedOn s (status cc low flags) = s
 actedOn s (analogue bytes) = put s housedAt bytes
 actedOn s faulty = s
 
+-- the bytes after a change that a refusal makes
+abbrev pub changedOn : List ℕ → Change → List ℕ
+changedOn s unchanged = s
+changedOn s (lateOn cc) = raisedOn s (broadcastsAt cc)
+changedOn s (errorOn cc n) = erredOn s cc n
+
 -- the bytes after a frame refused with n
 unfoldable pub refusedOn : List ℕ → ℕ → Frame → List ℕ
-refusedOn s n (broadcast cc time altitude spin phase) = cond (eqb n 5) (raisedOn s (broadcastsAt cc)) s
-refusedOn s n (command cc id sequence parameters) = cond (isError n) (erredOn s cc n) s
-refusedOn s n (tick r) = s
-refusedOn s n (sample t x) = s
-refusedOn s n (poll cc) = s
-refusedOn s n (status cc low flags) = s
-refusedOn s n (analogue bytes) = s
-refusedOn s n faulty = s
+refusedOn s n f = changedOn s (change n (countOf f))
 
 -- "Accepted polls write 126 bytes, status 2, others none; later output bytes stay."
 unfoldable pub repliedOn : List ℕ → ℕ → Frame → List ℕ → Res

@@ -101,5 +101,5 @@ pub noted-waits : (s : List ℕ) → Fit s → (cc : Channel) (id sequence : ℕ
 unfolding noted
 noted-waits s f cc id sequence =
     sym (queue-length (notedOn s cc id sequence))
-    ∙ ap (λ (c : Controller). length (c .queue)) (noted-view s f cc id sequence)
+    ∙ ap (λ (c : Controller). length (c .streams .queue)) (noted-view s f cc id sequence)
     ∙ queue-length s

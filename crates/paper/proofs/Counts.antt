@@ -25,12 +25,12 @@ poll-frame cdmuB = refl
 poll-begins : (c : Controller) (cc : Channel) → step c (pollFrame cc) 126 .reply ≡ 0
     → take 4 (step c (pollFrame cc) 126 .out) ≡ bytes16 (packetId cc) ++ bytes16 (0xC000 + at cc (c .tallies .telemetry) % 16384)
 unfolding shown shownFrom answer reply refused replied step
-poll-begins c cc = rw (poll-frame cc) (by (c .queue) refl)
+poll-begins c cc = rw (poll-frame cc) (by (c .streams .queue) refl)
   where
     o : Outcome
     o = replied (reply (holds c) (poll cc) 126) (poll cc) c
 
-    by : (q : List (Piece (List ℕ))) → c .queue ≡ q → o .reply ≡ 0
+    by : (q : List (Piece (List ℕ))) → c .streams .queue ≡ q → o .reply ≡ 0
         → take 4 (o .out) ≡ bytes16 (packetId cc) ++ bytes16 (0xC000 + at cc (c .tallies .telemetry) % 16384)
     by [] h e = absurd (eqb-false 9 0 refl (rw h at e))
     by (p ∷ rest) h e = rw (h, ne-eqb (suc (length rest)) 0 (λ z. omega (arith, z)))

@@ -20,71 +20,72 @@ use Rattle.paper.specs.Queue.{Piece, wrap, after, put, without}
 use Rattle.paper.specs.Controller.{Both, at, raised, raised8, raisedAt, Tallies, Open, Controller, start, queued, withImpact, stampNow}
 use Rattle.paper.specs.Housekeeping.{housekeepingPacket}
 use Rattle.paper.specs.Acts.{enter, heard, moved, counted as ticked, inProximity, last, completes, taken, watching, ended, impactPacket, completed, ticks, joinedBy, closes, closed, extended, sampled, noted, cleared, commanded, obeyed, polled, performed, polledFrom, accepted, answer}
-use Rattle.paper.specs.Step.{holds, queues, nothingWaits, reply, lateHeard, erred, isError, refused, Outcome, outcome, replied, step}
+use Rattle.paper.specs.Step.{holds, queues, reply, lateHeard, erred, isError, Count, ofBroadcasts, ofCommands, ofPolls, ofNone, countOf, unchanged, lateOn, errorOn, change, changed, refused, Outcome, outcome, replied, step}
 use Rattle.paper.specs.Runs.{Call, runs}
-use Rattle.paper.specs.History.{Counted, history, howMany, sameChannel, commandOn, broadcastsOn, packetsOn, commandsIn, pollsOn, errorsIn, isAccepted, raisesBroadcasts, raisesPackets, raisesCommands, raisesTelemetry, raisesErrors, fullPacket, onlyIf, sent, sentAt, sentBy, piecesOf, countsAfter, numberedAll, spares, stillWaiting, sparedAt, stillWaitingAt}
-use Rattle.paper.proofs.Refusals.{passed}
+use Rattle.paper.specs.History.{Counted, history, howMany, sameChannel, broadcastsOn, packetsOn, commandsIn, pollsOn, errorsIn, isAccepted, raisesBroadcasts, raisesPackets, raisesCommands, raisesTelemetry, raisesErrors, fullPacket, onlyIf, sent, sentAt, sentBy, piecesOf, countsAfter, numberedAll, Takes, nothing, theFirst, named, clears, takes, leaves, takesAt}
+use Rattle.paper.proofs.Refusals.{Clear, passed, refused-any}
 
 -- ---- what packets do to queue and counts
 
--- a controller d that is c with its queue left as q and packets ps queued behind it, one after the other
-pub record Queues (c d : Controller) (q : List (Piece (List ℕ))) (ps : List (ℕ × List ℕ)) : Type 0 where
-  pub queue : d .queue ≡ q ++ numberedAll wrap (c .counts) ps
-  pub counts : d .counts ≡ countsAfter wrap (c .counts) ps
+-- A controller d that is c after packets ps were queued, one after the other, and then what t takes was taken.
+pub record Queues (c d : Controller) (t : Takes) (ps : List (ℕ × List ℕ)) : Type 0 where
+  pub queue : d .streams .queue ≡ leaves t (c .streams .queue ++ numberedAll wrap (c .streams .counts) ps)
+  pub counts : d .streams .counts ≡ countsAfter wrap (c .streams .counts) ps
 
--- none
-queues-none : (c d : Controller) (q : List (Piece (List ℕ))) → d .queue ≡ q → d .counts ≡ c .counts → Queues c d q []
+-- none queued
+queues-none : (c d : Controller) (t : Takes) → d .streams .queue ≡ leaves t (c .streams .queue)
+    → d .streams .counts ≡ c .streams .counts → Queues c d t []
 unfolding numberedAll countsAfter
-queues-none c d q e f = record { queue = e ∙ sym (append-nil q); counts = f }
+queues-none c d t e f = record { queue = e ∙ ap (leaves t) (sym (append-nil (c .streams .queue))); counts = f }
 
 -- one, by the machine's own way to queue it; what else differs between b and c does not count
-queues-one : (c b : Controller) (s : ℕ) (x : List ℕ) → b .queue ≡ c .queue → b .counts ≡ c .counts
-    → Queues c (queued b s x) (c .queue) ((s, x) ∷ [])
+queues-one : (c b : Controller) (s : ℕ) (x : List ℕ) → b .streams .queue ≡ c .streams .queue
+    → b .streams .counts ≡ c .streams .counts → Queues c (queued b s x) nothing ((s, x) ∷ [])
 unfolding numberedAll countsAfter queued
 queues-one c b s x e f =
     record {
-      queue = rw (e, f) (ap (λ l. c .queue ++ l) (sym (append-nil _)));
+      queue = rw (e, f) (ap (λ l. c .streams .queue ++ l) (sym (append-nil _)));
       counts = ap (λ g. put g s (after wrap (g s) (cut (pieces s) x))) f;
     }
 
 -- an entry queues nothing
-queues-enter : (c d : Controller) (q : List (Piece (List ℕ))) (ps : List (ℕ × List ℕ)) (mode : Mode) (locked : Bool) (reference : ℕ)
-    → Queues c d q ps → Queues c (enter d mode locked reference) q ps
+queues-enter : (c d : Controller) (t : Takes) (ps : List (ℕ × List ℕ)) (mode : Mode) (locked : Bool) (reference : ℕ)
+    → Queues c d t ps → Queues c (enter d mode locked reference) t ps
 unfolding enter
-queues-enter c d q ps mode locked reference k = record { queue = k .queue; counts = k .counts }
+queues-enter c d t ps mode locked reference k = record { queue = k .queue; counts = k .counts }
 
-queues-moved : (c d : Controller) (q : List (Piece (List ℕ))) (ps : List (ℕ × List ℕ)) → Queues c d q ps → Queues c (moved d) q ps
+queues-moved : (c d : Controller) (t : Takes) (ps : List (ℕ × List ℕ)) → Queues c d t ps → Queues c (moved d) t ps
 unfolding moved
-queues-moved c d q ps k = by (same mode (d .standing .mode))
+queues-moved c d t ps k = by (same mode (d .standing .mode))
   where
     mode : Mode
     mode =
         ruled (d .standing)
         (record { t = seconds (d .clock .time); altitude = d .clock .altitude; collecting = collects (d .impact .collection) })
 
-    by : (b : Bool) → Queues c (cond b d (enter d mode (d .standing .locked) (seconds (d .clock .time)))) q ps
+    by : (b : Bool) → Queues c (cond b d (enter d mode (d .standing .locked) (seconds (d .clock .time)))) t ps
     by true = k
-    by false = queues-enter c d q ps mode (d .standing .locked) (seconds (d .clock .time)) k
+    by false = queues-enter c d t ps mode (d .standing .locked) (seconds (d .clock .time)) k
 
-queues-completed : (c e : Controller) → e .queue ≡ c .queue → e .counts ≡ c .counts
-    → Queues c (completed e) (c .queue) ((acc-i, impactPacket (e .impact)) ∷ [])
+queues-completed : (c e : Controller) → e .streams .queue ≡ c .streams .queue → e .streams .counts ≡ c .streams .counts
+    → Queues c (completed e) nothing ((acc-i, impactPacket (e .impact)) ∷ [])
 unfolding completed
 queues-completed c e p q = by (e .standing .locked)
   where
     done : Controller
     done = queued (withImpact e (ended (e .impact))) acc-i (impactPacket (e .impact))
 
-    done-queues : Queues c done (c .queue) ((acc-i, impactPacket (e .impact)) ∷ [])
+    done-queues : Queues c done nothing ((acc-i, impactPacket (e .impact)) ∷ [])
     done-queues = queues-one c (withImpact e (ended (e .impact))) acc-i (impactPacket (e .impact)) p q
 
     by : (b : Bool)
-        → Queues c (cond b done (enter done surface false (secondsOf (e .impact .stamp .time)))) (c .queue)
+        → Queues c (cond b done (enter done surface false (secondsOf (e .impact .stamp .time)))) nothing
         ((acc-i, impactPacket (e .impact)) ∷ [])
     by true = done-queues
-    by false = queues-enter c done _ _ surface false (secondsOf (e .impact .stamp .time)) done-queues
+    by false = queues-enter c done nothing _ surface false (secondsOf (e .impact .stamp .time)) done-queues
 
 queues-ticks : (c : Controller) (r : ℕ)
-    → Queues c (ticks c r) (c .queue) (onlyIf (completes c) (acc-i, impactPacket (taken (c .impact) r)))
+    → Queues c (ticks c r) nothing (onlyIf (completes c) (acc-i, impactPacket (taken (c .impact) r)))
 unfolding ticks ticked completes watching
 queues-ticks c r = by (inProximity c) (last (c .impact .collection))
   where
@@ -95,100 +96,88 @@ queues-ticks c r = by (inProximity c) (last (c .impact .collection))
     e = withImpact d (taken (c .impact) r)
 
     by : (b f : Bool)
-        → Queues c (cond b (cond (b && f) (completed e) (watching e)) d) (c .queue)
+        → Queues c (cond b (cond (b && f) (completed e) (watching e)) d) nothing
         (onlyIf (b && f) (acc-i, impactPacket (taken (c .impact) r)))
     by true true = queues-completed c e refl refl
-    by true false = queues-none c (watching e) (c .queue) refl refl
-    by false f = queues-none c d (c .queue) refl refl
+    by true false = queues-none c (watching e) nothing refl refl
+    by false f = queues-none c d nothing refl refl
 
 queues-sampled : (c : Controller) (s : ℕ) (x : List ℕ)
-    → Queues c (sampled c s x) (c .queue) (onlyIf (closes c s) (s, fullPacket c s x))
+    → Queues c (sampled c s x) nothing (onlyIf (closes c s) (s, fullPacket c s x))
 unfolding sampled closed extended fullPacket
 queues-sampled c s x = by (closes c s)
   where
     o : Open
-    o = joinedBy (c .opened s) (stampNow c s) x
+    o = joinedBy (c .streams .opened s) (stampNow c s) x
 
-    by : (b : Bool) → Queues c (cond b (closed c s o) (extended c s o)) (c .queue) (onlyIf b (s, fullPacket c s x))
+    by : (b : Bool) → Queues c (cond b (closed c s o) (extended c s o)) nothing (onlyIf b (s, fullPacket c s x))
     by true = queues-one c _ s _ refl refl
-    by false = queues-none c (extended c s o) (c .queue) refl refl
+    by false = queues-none c (extended c s o) nothing refl refl
 
-queues-performed : (c b : Controller) (d : Decoded) → b .queue ≡ c .queue → b .counts ≡ c .counts
-    → Queues c (performed b d) (spares d (c .queue)) (onlyIf (queues d) (hk, housekeepingPacket b))
+queues-performed : (c b : Controller) (d : Decoded) → b .streams .queue ≡ c .streams .queue → b .streams .counts ≡ c .streams .counts
+    → Queues c (performed b d) (clears d) (onlyIf (queues d) (hk, housekeepingPacket b))
 unfolding performed obeyed cleared commanded
-queues-performed c b (request (clear mask)) e f = queues-none c (cleared b mask) _ (ap (without (names mask)) e) f
+queues-performed c b (request (clear mask)) e f = queues-none c (cleared b mask) (named mask) (ap (without (names mask)) e) f
 queues-performed c b (request housekeeping) e f = queues-one c b hk (housekeepingPacket b) e f
 queues-performed c b (request (setMode value)) e f =
-    queues-enter c (withImpact b (ended (b .impact))) (c .queue) [] (modeOf (value % 8)) (leb 8 value) (seconds (b .clock .time))
-    (queues-none c (withImpact b (ended (b .impact))) (c .queue) e f)
-queues-performed c b (refusal n) e f = queues-none c b (c .queue) e f
+    queues-enter c (withImpact b (ended (b .impact))) nothing [] (modeOf (value % 8)) (leb 8 value) (seconds (b .clock .time))
+    (queues-none c (withImpact b (ended (b .impact))) nothing e f)
+queues-performed c b (refusal n) e f = queues-none c b nothing e f
 
-queues-polled : (c : Controller) (cc : Channel) (q : List (Piece (List ℕ))) → c .queue ≡ q
-    → Queues c (polledFrom c cc q) (drop 1 q) []
+queues-polled : (c : Controller) (cc : Channel) (q : List (Piece (List ℕ))) → c .streams .queue ≡ q
+    → Queues c (polledFrom c cc q) theFirst []
 unfolding polledFrom polled
-queues-polled c cc [] e = queues-none c c [] e refl
-queues-polled c cc (p ∷ rest) e = queues-none c (polled c cc rest) rest refl refl
+queues-polled c cc [] e = queues-none c c theFirst (e ∙ sym (ap (drop 1) e)) refl
+queues-polled c cc (p ∷ rest) e = queues-none c (polled c cc rest) theFirst (sym (ap (drop 1) e)) refl
 
--- The law that ties `sent` to the machine: an accepted frame leaves of the queue what it spares, and behind that the packets
--- that it sends, queued one after the other; counts move on by those packets alone, so "cleared pieces have used theirs".
-pub queues-accepted : (c : Controller) (f : Frame) → Queues c (accepted c f) (stillWaiting f (c .queue)) (sent c f)
+-- The law that ties `sent` and `takes` to the machine: an accepted frame leaves of the queue, with the packets behind it that it
+-- sends, what it does not take; counts move on by those packets alone, so "cleared pieces have used theirs".
+pub queues-accepted : (c : Controller) (f : Frame) → Queues c (accepted c f) (takes f) (sent c f)
 unfolding accepted heard noted sent
 queues-accepted c (broadcast cc time altitude spin phase) =
-    queues-moved c (heard c cc time altitude spin phase) (c .queue) []
-    (queues-none c (heard c cc time altitude spin phase) (c .queue) refl refl)
+    queues-moved c (heard c cc time altitude spin phase) nothing []
+    (queues-none c (heard c cc time altitude spin phase) nothing refl refl)
 queues-accepted c (command cc id sequence parameters) =
     queues-performed c (noted c cc id sequence) (decoded id parameters) refl refl
 queues-accepted c (tick r) = queues-ticks c r
 queues-accepted c (sample s x) = queues-sampled c s x
-queues-accepted c (poll cc) = queues-polled c cc (c .queue) refl
-queues-accepted c (status cc low flags) = queues-none c c (c .queue) refl refl
-queues-accepted c (analogue bytes) = queues-none c (accepted c (analogue bytes)) (c .queue) refl refl
-queues-accepted c faulty = queues-none c c (c .queue) refl refl
+queues-accepted c (poll cc) = queues-polled c cc (c .streams .queue) refl
+queues-accepted c (status cc low flags) = queues-none c c nothing refl refl
+queues-accepted c (analogue bytes) = queues-none c (accepted c (analogue bytes)) nothing refl refl
+queues-accepted c faulty = queues-none c c nothing refl refl
 
 -- a poll: the first piece is gone
-pub poll-queue : (c : Controller) (cc : Channel) → accepted c (poll cc) .queue ≡ drop 1 (c .queue)
+pub poll-queue : (c : Controller) (cc : Channel) → accepted c (poll cc) .streams .queue ≡ drop 1 (c .streams .queue)
 unfolding numberedAll sent
-poll-queue c cc = queues-accepted c (poll cc) .queue ∙ append-nil _
+poll-queue c cc = queues-accepted c (poll cc) .queue ∙ ap (drop 1) (append-nil (c .streams .queue))
 
-pub poll-counts : (c : Controller) (cc : Channel) → accepted c (poll cc) .counts ≡ c .counts
+pub poll-counts : (c : Controller) (cc : Channel) → accepted c (poll cc) .streams .counts ≡ c .streams .counts
 unfolding countsAfter sent
 poll-counts c cc = queues-accepted c (poll cc) .counts
 
 -- a clear: "waiting pieces of named streams go, the rest keep their order", "cleared pieces have used theirs"
 pub clear-queue : (c : Controller) (cc : Channel) (id sequence mask : ℕ) (parameters : List ℕ)
     → decoded id parameters ≡ request (clear mask)
-    → accepted c (command cc id sequence parameters) .queue ≡ without (names mask) (c .queue)
+    → accepted c (command cc id sequence parameters) .streams .queue ≡ without (names mask) (c .streams .queue)
 unfolding accepted performed obeyed cleared noted
 clear-queue c cc id sequence mask parameters e = rw e
 
 pub clear-counts : (c : Controller) (cc : Channel) (id sequence mask : ℕ) (parameters : List ℕ)
-    → decoded id parameters ≡ request (clear mask) → accepted c (command cc id sequence parameters) .counts ≡ c .counts
+    → decoded id parameters ≡ request (clear mask)
+    → accepted c (command cc id sequence parameters) .streams .counts ≡ c .streams .counts
 unfolding accepted performed obeyed cleared noted
 clear-counts c cc id sequence mask parameters e = rw e
 
 -- a refusal queues nothing and takes nothing away
-pub queues-refused : (n : ℕ) (f : Frame) (c : Controller) → Queues c (refused n f c) (c .queue) []
-unfolding refused lateHeard erred
-queues-refused n (broadcast cc time altitude spin phase) c = by (eqb n 5)
-  where
-    by : (b : Bool) → Queues c (cond b (lateHeard c cc) c) (c .queue) []
-    by true = queues-none c (lateHeard c cc) (c .queue) refl refl
-    by false = queues-none c c (c .queue) refl refl
-queues-refused n (command cc id sequence parameters) c = by (isError n)
-  where
-    by : (b : Bool) → Queues c (cond b (erred c cc n) c) (c .queue) []
-    by true = queues-none c (erred c cc n) (c .queue) refl refl
-    by false = queues-none c c (c .queue) refl refl
-queues-refused n (tick r) c = queues-none c c (c .queue) refl refl
-queues-refused n (sample s x) c = queues-none c c (c .queue) refl refl
-queues-refused n (poll cc) c = queues-none c c (c .queue) refl refl
-queues-refused n (status cc low flags) c = queues-none c c (c .queue) refl refl
-queues-refused n (analogue bytes) c = queues-none c c (c .queue) refl refl
-queues-refused n faulty c = queues-none c c (c .queue) refl refl
+pub queues-refused : (n : ℕ) (f : Frame) (c : Controller) → Queues c (refused n f c) nothing []
+unfolding lateHeard erred
+queues-refused n f c =
+    refused-any (λ d. Queues c d nothing []) n f c (queues-none c c nothing refl refl)
+    (λ cc. queues-none c (lateHeard c cc) nothing refl refl) (λ cc m. queues-none c (erred c cc m) nothing refl refl)
 
 -- the law of a call
-pub queues-step : (c : Controller) (x : Call) → Queues c (step c (x .bytes) (x .room) .next) (stillWaitingAt c x) (sentAt c x)
-unfolding step replied sparedAt stillWaitingAt sentAt
+pub queues-step : (c : Controller) (x : Call) → Queues c (step c (x .bytes) (x .room) .next) (takesAt c x) (sentAt c x)
+unfolding step replied takesAt sentAt
 queues-step c x = by (reply (holds c) f (x .room)) (eqb (reply (holds c) f (x .room)) 0) refl
   where
     f : Frame
@@ -198,8 +187,7 @@ queues-step c x = by (reply (holds c) f (x .room)) (eqb (reply (holds c) f (x .r
     o b n = cond b (outcome 0 (answer c f) (accepted c f)) (outcome n [] (refused n f c))
 
     by : (n : ℕ) (b : Bool) → eqb n 0 ≡ b
-        → Queues c (o b n .next) (cond (isAccepted (o b n .reply)) (stillWaiting f (c .queue)) (c .queue))
-        (cond (isAccepted (o b n .reply)) (sent c f) [])
+        → Queues c (o b n .next) (cond (isAccepted (o b n .reply)) (takes f) nothing) (cond (isAccepted (o b n .reply)) (sent c f) [])
     by n true e = queues-accepted c f
     by n false e = rw e (queues-refused n f c)
 
@@ -213,12 +201,12 @@ abbrev raised8If : Bool → ℕ → ℕ
 raised8If b n = cond b (raised8 n) n
 
 -- the step: the counts u that a frame leaves, having got its reply, of the counts t before
-pub record Adds (f : Frame) (n : ℕ) (t u : Tallies) : Type 0 where
-  pub broadcasts : (cc : Channel) → at cc (u .broadcasts) ≡ raisedIf (raisesBroadcasts cc f n) (at cc (t .broadcasts))
-  pub packets : (cc : Channel) → at cc (u .packets) ≡ raisedIf (raisesPackets cc f n) (at cc (t .packets))
-  pub telemetry : (cc : Channel) → at cc (u .telemetry) ≡ raisedIf (raisesTelemetry cc f n) (at cc (t .telemetry))
-  pub commands : u .commands ≡ raisedIf (raisesCommands f n) (t .commands)
-  pub errors : u .errors ≡ raised8If (raisesErrors f n) (t .errors)
+pub record Adds (k : Count) (n : ℕ) (t u : Tallies) : Type 0 where
+  pub broadcasts : (cc : Channel) → at cc (u .broadcasts) ≡ raisedIf (raisesBroadcasts cc k n) (at cc (t .broadcasts))
+  pub packets : (cc : Channel) → at cc (u .packets) ≡ raisedIf (raisesPackets cc k n) (at cc (t .packets))
+  pub telemetry : (cc : Channel) → at cc (u .telemetry) ≡ raisedIf (raisesTelemetry cc k n) (at cc (t .telemetry))
+  pub commands : u .commands ≡ raisedIf (raisesCommands k n) (t .commands)
+  pub errors : u .errors ≡ raised8If (raisesErrors k n) (t .errors)
 
 -- only the named channel's count goes on
 at-raised : (cc dd : Channel) (m : Both) (b : Bool) → at cc (cond b (raisedAt dd m) m) ≡ raisedIf (sameChannel cc dd && b) (at cc m)
@@ -277,7 +265,7 @@ unfolding sampled closed extended queued
 tallies-sampled c s x = by (closes c s)
   where
     o : Open
-    o = joinedBy (c .opened s) (stampNow c s) x
+    o = joinedBy (c .streams .opened s) (stampNow c s) x
 
     by : (b : Bool) → cond b (closed c s o) (extended c s o) .tallies ≡ c .tallies
     by true = refl
@@ -290,20 +278,12 @@ tallies-performed c (request housekeeping) = refl
 tallies-performed c (request (setMode value)) = refl
 tallies-performed c (refusal n) = refl
 
--- a frame that is neither broadcast, command nor poll adds to no count, nor does a refused poll
-adds-none : (f : Frame) (n : ℕ) (t : Tallies) → ((cc : Channel) → raisesBroadcasts cc f n ≡ false)
-    → ((cc : Channel) → commandOn cc f ≡ false) → ((cc : Channel) → raisesTelemetry cc f n ≡ false) → Adds f n t t
-adds-none f n t b k p =
-    record {
-      broadcasts = λ cc. rw (b cc);
-      packets = λ cc. rw (k cc);
-      telemetry = λ cc. rw (p cc);
-      commands = rw (k cdmuA, k cdmuB);
-      errors = rw (k cdmuA, k cdmuB);
-    }
+-- a frame that raises nobody's count adds to none
+adds-none : (n : ℕ) (t : Tallies) → Adds ofNone n t t
+adds-none n t = record { broadcasts = λ cc. refl; packets = λ cc. refl; telemetry = λ cc. refl; commands = refl; errors = refl }
 
 adds-polled : (c : Controller) (dd : Channel) (q : List (Piece (List ℕ))) → eqb (length q) 0 ≡ false
-    → Adds (poll dd) 0 (c .tallies) (polledFrom c dd q .tallies)
+    → Adds (ofPolls dd) 0 (c .tallies) (polledFrom c dd q .tallies)
 unfolding polledFrom polled
 adds-polled c dd [] h = absurd (eqb-false 0 0 h refl)
 adds-polled c dd (p ∷ rest) h =
@@ -315,7 +295,7 @@ adds-polled c dd (p ∷ rest) h =
       errors = refl;
     }
 
-adds-accepted : (c : Controller) (f : Frame) → nothingWaits f c ≡ false → Adds f 0 (c .tallies) (accepted c f .tallies)
+adds-accepted : (c : Controller) (f : Frame) → Clear c f 9 → Adds (countOf f) 0 (c .tallies) (accepted c f .tallies)
 unfolding accepted heard noted
 adds-accepted c (broadcast dd time altitude spin phase) h =
     rw (tallies-moved (heard c dd time altitude spin phase))
@@ -335,20 +315,18 @@ adds-accepted c (command dd id sequence parameters) h =
       commands = rw (either-channel dd);
       errors = rw (either-channel dd);
     })
-adds-accepted c (tick r) h = rw (tallies-ticks c r) (adds-none (tick r) 0 (c .tallies) (λ cc. refl) (λ cc. refl) (λ cc. refl))
-adds-accepted c (sample s x) h =
-    rw (tallies-sampled c s x) (adds-none (sample s x) 0 (c .tallies) (λ cc. refl) (λ cc. refl) (λ cc. refl))
-adds-accepted c (poll cc) h = adds-polled c cc (c .queue) h
-adds-accepted c (status cc low flags) h = adds-none (status cc low flags) 0 (c .tallies) (λ cc. refl) (λ cc. refl) (λ cc. refl)
-adds-accepted c (analogue bytes) h = adds-none (analogue bytes) 0 (c .tallies) (λ cc. refl) (λ cc. refl) (λ cc. refl)
-adds-accepted c faulty h = adds-none faulty 0 (c .tallies) (λ cc. refl) (λ cc. refl) (λ cc. refl)
+adds-accepted c (tick r) h = rw (tallies-ticks c r) (adds-none 0 (c .tallies))
+adds-accepted c (sample s x) h = rw (tallies-sampled c s x) (adds-none 0 (c .tallies))
+adds-accepted c (poll cc) h = adds-polled c cc (c .streams .queue) h
+adds-accepted c (status cc low flags) h = adds-none 0 (c .tallies)
+adds-accepted c (analogue bytes) h = adds-none 0 (c .tallies)
+adds-accepted c faulty h = adds-none 0 (c .tallies)
 
-adds-refused : (n : ℕ) (f : Frame) (c : Controller) → eqb n 0 ≡ false → Adds f n (c .tallies) (refused n f c .tallies)
-unfolding refused lateHeard erred
-adds-refused n (broadcast dd time altitude spin phase) c z = by (eqb n 5) refl
+adds-refused : (n : ℕ) (k : Count) (c : Controller) → eqb n 0 ≡ false → Adds k n (c .tallies) (changed (change n k) c .tallies)
+unfolding lateHeard erred
+adds-refused n (ofBroadcasts dd) c z = by (eqb n 5) refl
   where
-    by : (b : Bool) → eqb n 5 ≡ b
-        → Adds (broadcast dd time altitude spin phase) n (c .tallies) (cond b (lateHeard c dd) c .tallies)
+    by : (b : Bool) → eqb n 5 ≡ b → Adds (ofBroadcasts dd) n (c .tallies) (changed (cond b (lateOn dd) unchanged) c .tallies)
     by true e =
         record {
           broadcasts = λ cc. rw (z, e) (at-raised cc dd (c .tallies .broadcasts) true);
@@ -365,10 +343,9 @@ adds-refused n (broadcast dd time altitude spin phase) c z = by (eqb n 5) refl
           commands = refl;
           errors = refl;
         }
-adds-refused n (command dd id sequence parameters) c z = by (isError n) refl
+adds-refused n (ofCommands dd) c z = by (isError n) refl
   where
-    by : (b : Bool) → isError n ≡ b
-        → Adds (command dd id sequence parameters) n (c .tallies) (cond b (erred c dd n) c .tallies)
+    by : (b : Bool) → isError n ≡ b → Adds (ofCommands dd) n (c .tallies) (changed (cond b (errorOn dd n) unchanged) c .tallies)
     by true e =
         record {
           broadcasts = λ cc. refl;
@@ -385,20 +362,19 @@ adds-refused n (command dd id sequence parameters) c z = by (isError n) refl
           commands = rw (either-channel dd, z);
           errors = rw (either-channel dd, e);
         }
-adds-refused n (tick r) c z = adds-none (tick r) n (c .tallies) (λ cc. refl) (λ cc. refl) (λ cc. refl)
-adds-refused n (sample s x) c z = adds-none (sample s x) n (c .tallies) (λ cc. refl) (λ cc. refl) (λ cc. refl)
-adds-refused n (poll dd) c z = adds-none (poll dd) n (c .tallies) (λ cc. refl) (λ cc. refl) (λ cc. refused-poll (sameChannel cc dd))
-  where
-    refused-poll : (b : Bool) → b && eqb n 0 ≡ false
-    refused-poll true = z
-    refused-poll false = refl
-adds-refused n (status cc low flags) c z = adds-none (status cc low flags) n (c .tallies) (λ cc. refl) (λ cc. refl) (λ cc. refl)
-adds-refused n (analogue bytes) c z = adds-none (analogue bytes) n (c .tallies) (λ cc. refl) (λ cc. refl) (λ cc. refl)
-adds-refused n faulty c z = adds-none faulty n (c .tallies) (λ cc. refl) (λ cc. refl) (λ cc. refl)
+adds-refused n (ofPolls dd) c z =
+    record {
+      broadcasts = λ cc. refl;
+      packets = λ cc. refl;
+      telemetry = λ cc. rw z (at-raised cc dd (c .tallies .telemetry) false);
+      commands = refl;
+      errors = refl;
+    }
+adds-refused n ofNone c z = adds-none n (c .tallies)
 
 pub adds-step : (c : Controller) (bytes : List ℕ) (room : ℕ)
-    → Adds (frameOf bytes) (step c bytes room .reply) (c .tallies) (step c bytes room .next .tallies)
-unfolding step replied
+    → Adds (countOf (frameOf bytes)) (step c bytes room .reply) (c .tallies) (step c bytes room .next .tallies)
+unfolding step replied refused
 adds-step c bytes room = by (reply (holds c) f room) refl (eqb (reply (holds c) f room) 0) refl
   where
     f : Frame
@@ -408,14 +384,14 @@ adds-step c bytes room = by (reply (holds c) f room) refl (eqb (reply (holds c) 
     o b n = cond b (outcome 0 (answer c f) (accepted c f)) (outcome n [] (refused n f c))
 
     by : (n : ℕ) → reply (holds c) f room ≡ n → (b : Bool) → eqb n 0 ≡ b
-        → Adds f (o b n .reply) (c .tallies) (o b n .next .tallies)
+        → Adds (countOf f) (o b n .reply) (c .tallies) (o b n .next .tallies)
     by n r true e = adds-accepted c f (passed c f room (r ∙ eqb-true n 0 e) .waits)
-    by n r false e = adds-refused n f c e
+    by n r false e = adds-refused n (countOf f) c e
 
 -- ---- counts along a run
 
-how-many-snoc : (test : Frame → ℕ → Bool) (h : List (Frame × ℕ)) (f : Frame) (n : ℕ)
-    → howMany test (h ++ ((f, n) ∷ [])) ≡ howMany test h + cond (test f n) 1 0
+how-many-snoc : (test : Count → ℕ → Bool) (h : List (Frame × ℕ)) (f : Frame) (n : ℕ)
+    → howMany test (h ++ ((f, n) ∷ [])) ≡ howMany test h + cond (test (countOf f) n) 1 0
 how-many-snoc test [] f n = omega arith
 how-many-snoc test (e ∷ h) f n = let r = how-many-snoc test h f n in omega arith
 
@@ -432,12 +408,12 @@ raise8 : (b : Bool) (x m : ℕ) → x ≡ m % 256 → raised8If b x ≡ (m + con
 raise8 true x m e = omega arith
 raise8 false x m e = omega arith
 
-module _ (test : Frame → ℕ → Bool) (h : List (Frame × ℕ)) (f : Frame) (n x : ℕ) where
-  goes-on : x ≡ howMany test h % 65536 → raisedIf (test f n) x ≡ howMany test (h ++ ((f, n) ∷ [])) % 65536
-  goes-on e = rw how-many-snoc (raise (test f n) x (howMany test h) e)
+module _ (test : Count → ℕ → Bool) (h : List (Frame × ℕ)) (f : Frame) (n x : ℕ) where
+  goes-on : x ≡ howMany test h % 65536 → raisedIf (test (countOf f) n) x ≡ howMany test (h ++ ((f, n) ∷ [])) % 65536
+  goes-on e = rw how-many-snoc (raise (test (countOf f) n) x (howMany test h) e)
 
-  goes-on8 : x ≡ howMany test h % 256 → raised8If (test f n) x ≡ howMany test (h ++ ((f, n) ∷ [])) % 256
-  goes-on8 e = rw how-many-snoc (raise8 (test f n) x (howMany test h) e)
+  goes-on8 : x ≡ howMany test h % 256 → raised8If (test (countOf f) n) x ≡ howMany test (h ++ ((f, n) ∷ [])) % 256
+  goes-on8 e = rw how-many-snoc (raise8 (test (countOf f) n) x (howMany test h) e)
 
 -- counts go on by a packet's pieces
 length-chunks : (n k : ℕ) (l : List ℕ) → length (chunks n k l) ≡ k
@@ -478,7 +454,7 @@ counted-step c x h ps k =
       streams =
           λ t.
           ap (λ g. g t) (queues-step c x .counts)
-          ∙ counts-after (sentAt c x) (c .counts) t (piecesOf t ps) (k .streams t)
+          ∙ counts-after (sentAt c x) (c .streams .counts) t (piecesOf t ps) (k .streams t)
           ∙ rw (pieces-append t ps (sentAt c x));
     }
   where
@@ -488,7 +464,7 @@ counted-step c x h ps k =
     n : ℕ
     n = step c (x .bytes) (x .room) .reply
 
-    a : Adds f n (c .tallies) (step c (x .bytes) (x .room) .next .tallies)
+    a : Adds (countOf f) n (c .tallies) (step c (x .bytes) (x .room) .next .tallies)
     a = adds-step c (x .bytes) (x .room)
 
 -- from any history so far

@@ -22,10 +22,10 @@ use Rattle.paper.specs.Packets.{pieceSize, filled, chunks, cut}
 use Rattle.paper.specs.Queue.{Piece, wrap, numbered}
 use Rattle.paper.specs.Controller.{Open, Controller, start, queued, withImpact, stampNow}
 use Rattle.paper.specs.Acts.{emptied, enter, heard, moved, counted, inProximity, last, completes, taken, watching, ended, impactPacket, completed, ticks, joinedBy, closes, closed, extended, sampled, noted, cleared, commanded, obeyed, shown, polled, performed, polledFrom, shownFrom, accepted, answer}
-use Rattle.paper.specs.Step.{holds, first, reply, nothingWaits, lateHeard, erred, refused, isError, outcome, replied, step}
+use Rattle.paper.specs.Step.{holds, first, reply, lateHeard, erred, refused, outcome, replied, step}
 use Rattle.paper.specs.Runs.{Call, runs}
 use Rattle.paper.proofs.All.{All, all-append, all-without}
-use Rattle.paper.proofs.Refusals.{reply-is, passed}
+use Rattle.paper.proofs.Refusals.{Clear, reply-is, passed, refused-any}
 
 -- ---- pieces of 118 bytes
 
@@ -54,7 +54,7 @@ whole-numbered s n (x ∷ xs) f = (f .0, whole-numbered s (wrap n) xs (f .1))
 -- ---- what is kept
 
 pub record Kept (c : Controller) : Type 0 where
-  pub whole : Whole (c .queue)
+  pub whole : Whole (c .streams .queue)
   pub proximal : collects (c .impact .collection) ≡ true → c .standing .mode ≡ proximity
 
 idle-only : (c : Controller) → collects (c .impact .collection) ≡ false → collects (c .impact .collection) ≡ true → c .standing .mode ≡ proximity
@@ -80,7 +80,7 @@ only-proximity modes.extended h = absurd (true-not-false h refl)
 only-proximity diagnostic h = absurd (true-not-false h refl)
 
 -- one with no collection running, whatever its mode
-pub quiet : (c : Controller) → Whole (c .queue) → collects (c .impact .collection) ≡ false → Kept c
+pub quiet : (c : Controller) → Whole (c .streams .queue) → collects (c .impact .collection) ≡ false → Kept c
 quiet c w f = record { whole = w; proximal = idle-only c f }
 
 -- ---- entries
@@ -93,7 +93,7 @@ collection-emptied mode i = at (same mode proximity)
     at true = refl
     at false = refl
 
-kept-enter : (c : Controller) (mode : Mode) (locked : Bool) (reference : ℕ) → Whole (c .queue) → collects (c .impact .collection) ≡ false
+kept-enter : (c : Controller) (mode : Mode) (locked : Bool) (reference : ℕ) → Whole (c .streams .queue) → collects (c .impact .collection) ≡ false
     → Kept (enter c mode locked reference)
 unfolding enter
 kept-enter c mode locked reference w f =
@@ -147,24 +147,24 @@ pub kept-queued : (c : Controller) (s : ℕ) (x : List ℕ) → Kept c → Kept 
 unfolding queued
 kept-queued c s x k =
     record {
-      whole = all-append _ (c .queue) _ (k .whole) (whole-numbered s (c .counts s) (cut (pieces s) x) (full-cut (pieces s) x));
+      whole = all-append _ (c .streams .queue) _ (k .whole) (whole-numbered s (c .streams .counts s) (cut (pieces s) x) (full-cut (pieces s) x));
       proximal = k .proximal;
     }
 
 -- ---- ticks
 
-kept-watching : (c : Controller) → Whole (c .queue) → c .standing .mode ≡ proximity → Kept (watching c)
+kept-watching : (c : Controller) → Whole (c .streams .queue) → c .standing .mode ≡ proximity → Kept (watching c)
 unfolding watching
 kept-watching c w m = record { whole = w; proximal = λ t. m }
 
-kept-completed : (c : Controller) → Whole (c .queue) → Kept (completed c)
+kept-completed : (c : Controller) → Whole (c .streams .queue) → Kept (completed c)
 unfolding completed queued
 kept-completed c w = at (c .standing .locked)
   where
     done : Controller
     done = queued (withImpact c (ended (c .impact))) acc-i (impactPacket (c .impact))
 
-    whole-done : Whole (done .queue)
+    whole-done : Whole (done .streams .queue)
     whole-done = kept-queued (withImpact c (ended (c .impact))) acc-i (impactPacket (c .impact)) (quiet (withImpact c (ended (c .impact))) w refl) .whole
 
     at : (b : Bool) → Kept (cond b done (enter done surface false (secondsOf (c .impact .stamp .time))))
@@ -194,7 +194,7 @@ unfolding sampled closed extended
 kept-sampled c s x k = at (closes c s)
   where
     o : Open
-    o = joinedBy (c .opened s) (stampNow c s) x
+    o = joinedBy (c .streams .opened s) (stampNow c s) x
 
     at : (b : Bool) → Kept (cond b (closed c s o) (extended c s o))
     at true = kept-queued _ s _ (record { whole = k .whole; proximal = k .proximal })
@@ -202,7 +202,7 @@ kept-sampled c s x k = at (closes c s)
 
 kept-obeyed : (c : Controller) (q : Request) → Kept c → Kept (obeyed c q)
 unfolding obeyed cleared commanded
-kept-obeyed c (clear mask) k = record { whole = all-without _ (names mask) (c .queue) (k .whole); proximal = k .proximal }
+kept-obeyed c (clear mask) k = record { whole = all-without _ (names mask) (c .streams .queue) (k .whole); proximal = k .proximal }
 kept-obeyed c housekeeping k = kept-queued c hk _ k
 kept-obeyed c (setMode value) k =
     kept-enter (withImpact c (ended (c .impact))) (modeOf (value % 8)) (leb 8 value) (seconds (c .clock .time)) (k .whole) refl
@@ -212,7 +212,7 @@ unfolding performed
 kept-performed c (request q) k = kept-obeyed c q k
 kept-performed c (refusal n) k = k
 
-kept-polled : (c : Controller) (cc : Channel) (q : List (Piece (List ℕ))) → c .queue ≡ q → Kept c → Kept (polledFrom c cc q)
+kept-polled : (c : Controller) (cc : Channel) (q : List (Piece (List ℕ))) → c .streams .queue ≡ q → Kept c → Kept (polledFrom c cc q)
 unfolding polledFrom polled
 kept-polled c cc [] e k = k
 kept-polled c cc (p ∷ rest) e k = record { whole = (rw e at (k .whole)) .1; proximal = k .proximal }
@@ -227,29 +227,16 @@ kept-accepted c (command cc id sequence parameters) k =
     kept-performed (noted c cc id sequence) (decoded id parameters) (record { whole = k .whole; proximal = k .proximal })
 kept-accepted c (tick r) k = kept-ticks c r k
 kept-accepted c (sample s x) k = kept-sampled c s x k
-kept-accepted c (poll cc) k = kept-polled c cc (c .queue) refl k
+kept-accepted c (poll cc) k = kept-polled c cc (c .streams .queue) refl k
 kept-accepted c (status cc low flags) k = k
 kept-accepted c (analogue bytes) k = record { whole = k .whole; proximal = k .proximal }
 kept-accepted c faulty k = k
 
 kept-refused : (n : ℕ) (f : Frame) (c : Controller) → Kept c → Kept (refused n f c)
-unfolding refused lateHeard erred
-kept-refused n (broadcast cc time altitude spin phase) c k = at (eqb n 5)
-  where
-    at : (b : Bool) → Kept (cond b (lateHeard c cc) c)
-    at true = record { whole = k .whole; proximal = k .proximal }
-    at false = k
-kept-refused n (command cc id sequence parameters) c k = at (isError n)
-  where
-    at : (b : Bool) → Kept (cond b (erred c cc n) c)
-    at true = record { whole = k .whole; proximal = k .proximal }
-    at false = k
-kept-refused n (tick r) c k = k
-kept-refused n (sample s x) c k = k
-kept-refused n (poll cc) c k = k
-kept-refused n (status cc low flags) c k = k
-kept-refused n (analogue bytes) c k = k
-kept-refused n faulty c k = k
+unfolding lateHeard erred
+kept-refused n f c k =
+    refused-any Kept n f c k (λ cc. record { whole = k .whole; proximal = k .proximal })
+    (λ cc m. record { whole = k .whole; proximal = k .proximal })
 
 pub kept-step : (c : Controller) (bytes : List ℕ) (room : ℕ) → Kept c → Kept (step c bytes room .next)
 unfolding step replied
@@ -289,13 +276,13 @@ unfolding shownFrom shown
 shown-size c cc [] w h = absurd (h refl)
 shown-size c cc (p ∷ rest) w h = omega (arith, w .0)
 
-answer-size : (c : Controller) (f : Frame) → Kept c → nothingWaits f c ≡ false → length (answer c f) ≡ written f
+answer-size : (c : Controller) (f : Frame) → Kept c → Clear c f 9 → length (answer c f) ≡ written f
 unfolding answer
 answer-size c (broadcast cc time altitude spin phase) k e = refl
 answer-size c (command cc id sequence parameters) k e = refl
 answer-size c (tick r) k e = refl
 answer-size c (sample s x) k e = refl
-answer-size c (poll cc) k e = shown-size c cc (c .queue) (k .whole) (eqb-false (length (c .queue)) 0 e)
+answer-size c (poll cc) k e = shown-size c cc (c .streams .queue) (k .whole) (eqb-false (length (c .streams .queue)) 0 e)
 answer-size c (status cc low flags) k e = refl
 answer-size c (analogue bytes) k e = refl
 answer-size c faulty k e = refl

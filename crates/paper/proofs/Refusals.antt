@@ -1,7 +1,7 @@
 -- Document 01, "What the controller replies": the laws about refusals.
 -- Assumes nothing.
 use mathlib.Core.Path.{_≡_, refl, sym, ap, _∙_}
-use mathlib.Core.Bool.{Bool, true, false, cond}
+use mathlib.Core.Bool.{Bool, true, false, cond, false≢true}
 use mathlib.Core.List.{List, [], _∷_, map}
 use Prim.Native.Nat.{ℕ}
 use lib.Dec.{eqb, ltb}
@@ -9,62 +9,87 @@ use borrow.Author.Tests.{eqb-true, eqb-false, eq-eqb, ne-eqb}
 use Rattle.paper.specs.Frames.{Channel, Frame, broadcast, command, tick, sample, poll, status, analogue, faulty, frameOf}
 use Rattle.paper.specs.Controller.{Controller}
 use Rattle.paper.specs.Acts.{accepted, answer}
-use Rattle.paper.specs.Step.{Lent, holds, wrongShape, notCarried, wrongLength, outOfRange, late, notTaken, noRoom, nothingWaits, first, reply, tests, isError, lateHeard, erred, refused, changesListed, Outcome, outcome, replied, step}
+use Rattle.paper.specs.Step.{grounds, Lent, holds, applies, first, order, reply, tests, isError, lateHeard, erred, countOf, Change, unchanged, lateOn, errorOn, change, changed, isListed, changesListed, refused, Outcome, outcome, replied, step}
 
 -- "Tested in the order 10, 8, 1, 2, 3, 4, 5, 6, 7, 9"
-pub order : (l : Lent Controller) (f : Frame) (room : ℕ)
+pub in-order : (l : Lent Controller) (f : Frame) (room : ℕ)
     → map (λ t. t .0) (tests l f room) ≡ 10 ∷ 8 ∷ 1 ∷ 2 ∷ 3 ∷ 4 ∷ 5 ∷ 6 ∷ 7 ∷ 9 ∷ []
-order l f room = refl
+in-order l f room = refl
+
+-- the numbers of the first are some of the second, in that order
+abbrev inTurn : List ℕ → List ℕ → Bool
+inTurn [] ms = true
+inTurn (n ∷ ns) [] = false
+inTurn (n ∷ ns) (m ∷ ms) = cond (eqb m n) (inTurn ns ms) (inTurn (n ∷ ns) ms)
+
+-- No kind of frame lists a number twice, nor 10 or 8, which are any frame's: the second would never be asked. And every number that
+-- one lists stands in the order.
+pub each-once : (c : Controller) (f : Frame) → inTurn (10 ∷ 8 ∷ map (λ g. g .0) (grounds c f)) order ≡ true
+each-once c (broadcast cc time altitude spin phase) = refl
+each-once c (command cc id sequence parameters) = refl
+each-once c (tick r) = refl
+each-once c (sample s x) = refl
+each-once c (poll cc) = refl
+each-once c (status cc low flags) = refl
+each-once c (analogue bytes) = refl
+each-once c faulty = refl
 
 -- ---- "the first that applies is given"
+
+-- a frame's own ground with this number does not apply
+abbrev pub Clear : Controller → Frame → ℕ → Type 0
+Clear c f n = applies (grounds c f) n ≡ false
 
 -- whoever gets 0 has passed each test
 pub record Passed (c : Controller) (f : Frame) (room : ℕ) : Type 0 where
   pub output : ltb room 126 ≡ false
-  pub shape : wrongShape f ≡ false
-  pub carries : notCarried f ≡ false
-  pub sized : wrongLength f ≡ false
-  pub ranged : outOfRange f ≡ false
-  pub timely : late f c ≡ false
-  pub moded : notTaken f c ≡ false
-  pub roomy : noRoom f c ≡ false
-  pub waits : nothingWaits f c ≡ false
+  pub shape : Clear c f 1
+  pub carries : Clear c f 2
+  pub sized : Clear c f 3
+  pub ranged : Clear c f 4
+  pub timely : Clear c f 5
+  pub moded : Clear c f 6
+  pub roomy : Clear c f 7
+  pub waits : Clear c f 9
 
-abbrev Untaken : List (ℕ × Bool) → Type 0
-Untaken [] = Unit {0}
-Untaken (t ∷ ts) = (t .1 ≡ false) × Untaken ts
+abbrev among : ℕ → List ℕ → Bool
+among n [] = false
+among n (m ∷ ms) = cond (eqb m n) true (among n ms)
 
--- no test has the number 0
-abbrev Numbered : List (ℕ × Bool) → Type 0
-Numbered [] = Unit {0}
-Numbered (t ∷ ts) = (t .0 ≡ 0 → ⊥) × Numbered ts
-
-untaken : (ts : List (ℕ × Bool)) → Numbered ts → first ts ≡ 0 → Untaken ts
-untaken [] h e = tt
-untaken (t ∷ ts) h e = at (t .1) refl e (untaken ts (h .1))
+-- where the first that applies is 0, and 0 is none of them, none applies
+none-first : (t : ℕ → Bool) (ms : List ℕ) → among 0 ms ≡ false → first (map (λ n. (n, t n)) ms) ≡ 0
+    → (n : ℕ) → among n ms ≡ true → t n ≡ false
+none-first t [] z e n i = absurd (false≢true i)
+none-first t (m ∷ ms) z e n i = at (t m) refl e (eqb m 0) refl z (λ y r j. none-first t ms y r n j)
   where
-    at : (b : Bool) → t .1 ≡ b → cond b (t .0) (first ts) ≡ 0 → (first ts ≡ 0 → Untaken ts) → (t .1 ≡ false) × Untaken ts
-    at true p q rest = absurd (h .0 q)
-    at false p q rest = (p, rest q)
+    Rest : Type 0
+    Rest = among 0 ms ≡ false → first (map (λ n. (n, t n)) ms) ≡ 0 → among n ms ≡ true → t n ≡ false
+
+    here : t m ≡ false → (b : Bool) → eqb m n ≡ b → cond b true (among n ms) ≡ true → (among n ms ≡ true → t n ≡ false) → t n ≡ false
+    here h true k j rest = ap t (sym (eqb-true m n k)) ∙ h
+    here h false k j rest = rest j
+
+    at : (b : Bool) → t m ≡ b → cond b m (first (map (λ n. (n, t n)) ms)) ≡ 0 → (y : Bool) → eqb m 0 ≡ y
+        → cond y true (among 0 ms) ≡ false → Rest → t n ≡ false
+    at b h r true k y rest = absurd (false≢true (sym y))
+    at true h r false k y rest = absurd (eqb-false m 0 k r)
+    at false h r false k y rest = here h (eqb m n) refl i (rest y r)
 
 pub passed : (c : Controller) (f : Frame) (room : ℕ) → reply (holds c) f room ≡ 0 → Passed c f room
 unfolding reply
 passed c f room e =
-    let u = untaken (tests (holds c) f room) (nz 10 refl, (nz 8 refl, (nz 1 refl, (nz 2 refl, (nz 3 refl, (nz 4 refl, (nz 5 refl, (nz 6 refl, (nz 7 refl, (nz 9 refl, tt)))))))))) e in
+    let no = none-first (applies ((10, false) ∷ (8, ltb room 126) ∷ grounds c f)) order refl e in
     record {
-      output = u .1 .0;
-      shape = u .1 .1 .0;
-      carries = u .1 .1 .1 .0;
-      sized = u .1 .1 .1 .1 .0;
-      ranged = u .1 .1 .1 .1 .1 .0;
-      timely = u .1 .1 .1 .1 .1 .1 .0;
-      moded = u .1 .1 .1 .1 .1 .1 .1 .0;
-      roomy = u .1 .1 .1 .1 .1 .1 .1 .1 .0;
-      waits = u .1 .1 .1 .1 .1 .1 .1 .1 .1 .0;
+      output = no 8 refl;
+      shape = no 1 refl;
+      carries = no 2 refl;
+      sized = no 3 refl;
+      ranged = no 4 refl;
+      timely = no 5 refl;
+      moded = no 6 refl;
+      roomy = no 7 refl;
+      waits = no 9 refl;
     }
-  where
-    nz : (n : ℕ) → eqb n 0 ≡ false → n ≡ 0 → ⊥
-    nz n h = eqb-false n 0 h
 
 -- ---- what a call leaves
 
@@ -101,6 +126,25 @@ leaves c bytes room n e h =
     let r : reply (holds c) (frameOf bytes) room ≡ n = sym (reply-is c bytes room) ∙ e in
     rw (r, ne-eqb n 0 h)
 
+-- What holds of no change, and of each that is listed, holds of what any refusal changes.
+pub any-change : (P : Change → Type 0) → P unchanged → ((cc : Channel) → P (lateOn cc)) → ((cc : Channel) (m : ℕ) → P (errorOn cc m))
+    → (x : Change) → P x
+any-change P none late err unchanged = none
+any-change P none late err (lateOn cc) = late cc
+any-change P none late err (errorOn cc m) = err cc m
+
+-- of the controller that it leaves
+pub refused-any : (P : Controller → Type 0) (n : ℕ) (f : Frame) (c : Controller) → P c → ((cc : Channel) → P (lateHeard c cc))
+    → ((cc : Channel) (m : ℕ) → P (erred c cc m)) → P (refused n f c)
+unfolding refused
+refused-any P n f c k late err = any-change (λ x. P (changed x c)) k late err (change n (countOf f))
+
+-- what is not listed is no change
+pub unlisted : (x : Change) → isListed x ≡ false → x ≡ unchanged
+unlisted =
+    any-change (λ x. isListed x ≡ false → x ≡ unchanged) (λ e. refl) (λ cc e. absurd (false≢true (sym e)))
+    (λ cc m e. absurd (false≢true (sym e)))
+
 -- "A broadcast refused with 5 raises only its channel's broadcast count."
 pub late-raises : (c : Controller) (bytes : List ℕ) (room : ℕ) (cc : Channel) (time altitude spin phase : ℕ)
     → frameOf bytes ≡ broadcast cc time altitude spin phase → step c bytes room .reply ≡ 5
@@ -124,14 +168,7 @@ error-raises c bytes room n cc id sequence parameters f e t = leaves c bytes roo
 
 stays : (n : ℕ) (f : Frame) (c : Controller) → changesListed n f ≡ false → refused n f c ≡ c
 unfolding refused
-stays n (broadcast cc time altitude spin phase) c l = rw l
-stays n (command cc id sequence parameters) c l = rw l
-stays n (tick r) c l = refl
-stays n (sample s x) c l = refl
-stays n (poll cc) c l = refl
-stays n (status cc low flags) c l = refl
-stays n (analogue bytes) c l = refl
-stays n faulty c l = refl
+stays n f c l = ap (λ x. changed x c) (unlisted (change n (countOf f)) l)
 
 -- "Every other refusal changes nothing."
 pub nothing-else : (c : Controller) (bytes : List ℕ) (room n : ℕ) → step c bytes room .reply ≡ n → (n ≡ 0 → ⊥)

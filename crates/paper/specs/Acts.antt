@@ -14,7 +14,7 @@ use Rattle.paper.specs.Commands.{Request, clear, housekeeping, setMode, 
 use Rattle.paper.specs.Streams.{acc-i, hk, pieces, perPacket}
 use Rattle.paper.specs.Packets.{pack, dataOf, datastream}
 use Rattle.paper.specs.Queue.{Piece, put, without, free}
-use Rattle.paper.specs.Controller.{Both, at, raised, raisedAt, Tallies, Open, nothingOpen, Controller, withClock, withStanding, withImpact, withTallies, withHoused, withStreams, stampNow, queued}
+use Rattle.paper.specs.Controller.{Both, at, raised, raisedAt, Tallies, withBroadcasts, withPackets, withTelemetry, withCommands, withLast, Open, nothingOpen, Streams, withOpened, withQueue, Controller, withClock, withStanding, withImpact, withTallies, withHoused, withStreams, stampNow, queued}
 use Rattle.paper.specs.Housekeeping.{housekeepingPacket}
 use Rattle.paper.specs.Status.{flagsOf, Shown, wordA, wordB}
 
@@ -37,16 +37,7 @@ enter c mode locked reference =
 unfoldable pub heard : Controller → Channel → ℕ → ℕ → ℕ → ℕ → Controller
 heard c cc time altitude spin phase =
     withTallies (withClock c (record { time = time; altitude = altitude; spin = spin; phase = phase; m = 0 }))
-    (record {
-      broadcasts = raisedAt cc (c .tallies .broadcasts);
-      packets = c .tallies .packets;
-      telemetry = c .tallies .telemetry;
-      commands = c .tallies .commands;
-      errors = c .tallies .errors;
-      code = c .tallies .code;
-      sequence = c .tallies .sequence;
-      id = c .tallies .id;
-    })
+    (withBroadcasts (c .tallies) (raisedAt cc (c .tallies .broadcasts)))
 
 -- "then, if unlocked:" the mode rule. "At most one change per broadcast. Each change .. is an entry". "the reference second of
 -- mode 5 is .. else T at entry"
@@ -141,19 +132,20 @@ joinedBy o st x = record { stamp = cond (eqb (length (o .samples)) 0) st (o .sta
 
 -- the sample that makes the packet full
 abbrev pub closes : Controller → ℕ → Bool
-closes c s = eqb (suc (length (c .opened s .samples))) (perPacket s)
+closes c s = eqb (suc (length (c .streams .opened s .samples))) (perPacket s)
 
 -- "When full, it is .. queued", and no packet of that stream is open
 unfoldable pub closed : Controller → ℕ → Open → Controller
 closed c s o =
-    queued (withStreams c (put (c .opened) s nothingOpen) (c .counts) (c .queue)) s (datastream (o .stamp) (dataOf s (o .samples)))
+    queued (withStreams c (withOpened (c .streams) (put (c .streams .opened) s nothingOpen))) s
+    (datastream (o .stamp) (dataOf s (o .samples)))
 
 unfoldable pub extended : Controller → ℕ → Open → Controller
-extended c s o = withStreams c (put (c .opened) s o) (c .counts) (c .queue)
+extended c s o = withStreams c (withOpened (c .streams) (put (c .streams .opened) s o))
 
 unfoldable pub sampled : Controller → ℕ → List ℕ → Controller
 sampled c s x =
-    let o : Open = joinedBy (c .opened s) (stampNow c s) x in
+    let o : Open = joinedBy (c .streams .opened s) (stampNow c s) x in
     cond (closes c s) (closed c s o) (extended c s o)
 
 -- ---- command
@@ -161,22 +153,21 @@ sampled c s x =
 -- "An accepted command first raises its packet count and the command count and stores the low bytes of sequence and id"
 unfoldable pub noted : Controller → Channel → ℕ → ℕ → Controller
 noted c cc id sequence =
-    withTallies c
-    (record {
-      broadcasts = c .tallies .broadcasts;
-      packets = raisedAt cc (c .tallies .packets);
-      telemetry = c .tallies .telemetry;
-      commands = raised (c .tallies .commands);
-      errors = c .tallies .errors;
-      code = c .tallies .code;
-      sequence = sequence % 256;
-      id = id % 256;
-    })
+    let t : Tallies = withPackets (c .tallies) (raisedAt cc (c .tallies .packets)) in
+    withTallies c (withLast (withCommands t (raised (c .tallies .commands))) (sequence % 256) (id % 256))
 
--- "0013 clear streams": "Open samples and waiting pieces of named streams go .. A running collection stays."
+-- "0013 clear streams": "Open samples and waiting pieces of named streams go"
+abbrev pub withoutNamed : Streams → ℕ → Streams
+withoutNamed k mask =
+    record {
+      opened = λ s. cond (names mask s) nothingOpen (k .opened s);
+      counts = k .counts;
+      queue = without (names mask) (k .queue);
+    }
+
+-- "A running collection stays."
 unfoldable pub cleared : Controller → ℕ → Controller
-cleared c mask =
-    withStreams c (λ s. cond (names mask s) nothingOpen (c .opened s)) (c .counts) (without (names mask) (c .queue))
+cleared c mask = withStreams c (withoutNamed (c .streams) mask)
 
 -- "0032 set mode, two bytes, 0 to 15: mode is the value modulo 8, locked from 8 up." "each accepted set-mode even to the same
 -- mode, is an entry". "Any entry by command abandons a running collection."
@@ -207,17 +198,7 @@ shown cc telemetry p =
 -- "the count rising afterwards"; the first piece is gone
 unfoldable pub polled : Controller → Channel → List (Piece (List ℕ)) → Controller
 polled c cc rest =
-    withTallies (withStreams c (c .opened) (c .counts) rest)
-    (record {
-      broadcasts = c .tallies .broadcasts;
-      packets = c .tallies .packets;
-      telemetry = raisedAt cc (c .tallies .telemetry);
-      commands = c .tallies .commands;
-      errors = c .tallies .errors;
-      code = c .tallies .code;
-      sequence = c .tallies .sequence;
-      id = c .tallies .id;
-    })
+    withTallies (withStreams c (withQueue (c .streams) rest)) (withTelemetry (c .tallies) (raisedAt cc (c .tallies .telemetry)))
 
 -- ---- status
 
@@ -249,7 +230,7 @@ accepted c (broadcast cc time altitude spin phase) = moved (heard c cc time alti
 accepted c (command cc id sequence parameters) = performed (noted c cc id sequence) (decoded id parameters)
 accepted c (tick r) = ticks c r
 accepted c (sample s x) = sampled c s x
-accepted c (poll cc) = polledFrom c cc (c .queue)
+accepted c (poll cc) = polledFrom c cc (c .streams .queue)
 accepted c (status cc low flags) = c
 accepted c (analogue bytes) = withHoused c bytes
 accepted c faulty = c
@@ -260,7 +241,7 @@ answer c (broadcast cc time altitude spin phase) = []
 answer c (command cc id sequence parameters) = []
 answer c (tick r) = []
 answer c (sample s x) = []
-answer c (poll cc) = shownFrom c cc (c .queue)
+answer c (poll cc) = shownFrom c cc (c .streams .queue)
 answer c (status cc low flags) = bytes16 (statusWord c cc low flags)
 answer c (analogue bytes) = []
 answer c faulty = []

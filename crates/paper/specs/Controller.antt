@@ -43,6 +43,85 @@ pub record Tallies : Type 0 where
   pub sequence : ℕ
   pub id : ℕ
 
+-- one of them changed, the others as they were; error count and code, and sequence and id, change together
+abbrev pub withBroadcasts : Tallies → Both → Tallies
+withBroadcasts t x =
+    record {
+      broadcasts = x;
+      packets = t .packets;
+      telemetry = t .telemetry;
+      commands = t .commands;
+      errors = t .errors;
+      code = t .code;
+      sequence = t .sequence;
+      id = t .id;
+    }
+
+abbrev pub withPackets : Tallies → Both → Tallies
+withPackets t x =
+    record {
+      broadcasts = t .broadcasts;
+      packets = x;
+      telemetry = t .telemetry;
+      commands = t .commands;
+      errors = t .errors;
+      code = t .code;
+      sequence = t .sequence;
+      id = t .id;
+    }
+
+abbrev pub withTelemetry : Tallies → Both → Tallies
+withTelemetry t x =
+    record {
+      broadcasts = t .broadcasts;
+      packets = t .packets;
+      telemetry = x;
+      commands = t .commands;
+      errors = t .errors;
+      code = t .code;
+      sequence = t .sequence;
+      id = t .id;
+    }
+
+abbrev pub withCommands : Tallies → ℕ → Tallies
+withCommands t x =
+    record {
+      broadcasts = t .broadcasts;
+      packets = t .packets;
+      telemetry = t .telemetry;
+      commands = x;
+      errors = t .errors;
+      code = t .code;
+      sequence = t .sequence;
+      id = t .id;
+    }
+
+abbrev pub withError : Tallies → ℕ → ℕ → Tallies
+withError t errors code =
+    record {
+      broadcasts = t .broadcasts;
+      packets = t .packets;
+      telemetry = t .telemetry;
+      commands = t .commands;
+      errors = errors;
+      code = code;
+      sequence = t .sequence;
+      id = t .id;
+    }
+
+abbrev pub withLast : Tallies → ℕ → ℕ → Tallies
+withLast t sequence id =
+    record {
+      broadcasts = t .broadcasts;
+      packets = t .packets;
+      telemetry = t .telemetry;
+      commands = t .commands;
+      errors = t .errors;
+      code = t .code;
+      sequence = sequence;
+      id = id;
+    }
+
 -- A packet that is not full yet: SSP time and mode at its first sample, and its samples in order (none: no packet is open).
 pub record Open : Type 0 where
   pub stamp : Stamp
@@ -54,16 +133,25 @@ noStamp = record { time = 0; mode = 0 }
 abbrev pub nothingOpen : Open
 nothingOpen = record { stamp = noStamp; samples = [] }
 
--- For each stream: `opened` is its open packet, `counts` the count that its next piece takes.
+-- What is kept of the streams: of each its open packet, and the count that its next piece takes; of all together the pieces that wait.
+pub record Streams : Type 0 where
+  pub opened : ℕ → Open
+  pub counts : ℕ → ℕ
+  pub queue : List (Piece (List ℕ))
+
+abbrev pub withOpened : Streams → (ℕ → Open) → Streams
+withOpened k x = record { opened = x; counts = k .counts; queue = k .queue }
+
+abbrev pub withQueue : Streams → List (Piece (List ℕ)) → Streams
+withQueue k x = record { opened = k .opened; counts = k .counts; queue = x }
+
 pub record Controller : Type 0 where
   pub clock : Clock
   pub standing : Standing
   pub impact : Impact
   pub tallies : Tallies
   pub housed : List ℕ
-  pub opened : ℕ → Open
-  pub counts : ℕ → ℕ
-  pub queue : List (Piece (List ℕ))
+  pub streams : Streams
 
 -- "A fresh controller has mode 1, unlocked, all numbers 0."
 unfoldable pub start : Controller
@@ -84,9 +172,7 @@ start =
             id = 0;
           };
       housed = replicate 58 0;
-      opened = λ s. nothingOpen;
-      counts = λ s. 0;
-      queue = [];
+      streams = record { opened = λ s. nothingOpen; counts = λ s. 0; queue = [] };
     }
 
 -- one part of the controller changed, the others as they were
@@ -98,9 +184,7 @@ withClock c x =
       impact = c .impact;
       tallies = c .tallies;
       housed = c .housed;
-      opened = c .opened;
-      counts = c .counts;
-      queue = c .queue;
+      streams = c .streams;
     }
 
 abbrev pub withStanding : Controller → Standing → Controller
@@ -111,9 +195,7 @@ withStanding c x =
       impact = c .impact;
       tallies = c .tallies;
       housed = c .housed;
-      opened = c .opened;
-      counts = c .counts;
-      queue = c .queue;
+      streams = c .streams;
     }
 
 abbrev pub withImpact : Controller → Impact → Controller
@@ -124,9 +206,7 @@ withImpact c x =
       impact = x;
       tallies = c .tallies;
       housed = c .housed;
-      opened = c .opened;
-      counts = c .counts;
-      queue = c .queue;
+      streams = c .streams;
     }
 
 abbrev pub withTallies : Controller → Tallies → Controller
@@ -137,9 +217,7 @@ withTallies c x =
       impact = c .impact;
       tallies = x;
       housed = c .housed;
-      opened = c .opened;
-      counts = c .counts;
-      queue = c .queue;
+      streams = c .streams;
     }
 
 abbrev pub withHoused : Controller → List ℕ → Controller
@@ -150,22 +228,18 @@ withHoused c x =
       impact = c .impact;
       tallies = c .tallies;
       housed = x;
-      opened = c .opened;
-      counts = c .counts;
-      queue = c .queue;
+      streams = c .streams;
     }
 
-abbrev pub withStreams : Controller → (ℕ → Open) → (ℕ → ℕ) → List (Piece (List ℕ)) → Controller
-withStreams c opened counts queue =
+abbrev pub withStreams : Controller → Streams → Controller
+withStreams c x =
     record {
       clock = c .clock;
       standing = c .standing;
       impact = c .impact;
       tallies = c .tallies;
       housed = c .housed;
-      opened = opened;
-      counts = counts;
-      queue = queue;
+      streams = x;
     }
 
 -- SSP time and mode of a stream's packet whose first sample comes now
@@ -174,7 +248,13 @@ stampNow c s = record { time = now (c .clock); mode = modeByte s (nibble (c .sta
 
 -- "When full, it is filled up with 99 to whole pieces of 118 and queued, all pieces or none": a datastream packet of stream s,
 -- for which there is room, joins the queue, and each piece takes its count.
+abbrev pub withPacket : Streams → ℕ → List ℕ → Streams
+withPacket k s x =
+    record {
+      opened = k .opened;
+      counts = put (k .counts) s (after wrap (k .counts s) (cut (pieces s) x));
+      queue = k .queue ++ numbered wrap s (k .counts s) (cut (pieces s) x);
+    }
+
 unfoldable pub queued : Controller → ℕ → List ℕ → Controller
-queued c s x =
-    withStreams c (c .opened) (put (c .counts) s (after wrap (c .counts s) (cut (pieces s) x)))
-    (c .queue ++ numbered wrap s (c .counts s) (cut (pieces s) x))
+queued c s x = withStreams c (withPacket (c .streams) s x)

@@ -15,7 +15,7 @@ use Rattle.paper.specs.Queue.{Piece, numbered, after, put, without}
 use Rattle.paper.specs.Controller.{at, Open, Controller, stampNow}
 use Rattle.paper.specs.Housekeeping.{housekeepingPacket}
 use Rattle.paper.specs.Acts.{completes, taken, impactPacket, joinedBy, closes, noted}
-use Rattle.paper.specs.Step.{queues, isError, Outcome, step}
+use Rattle.paper.specs.Step.{queues, isError, Count, ofBroadcasts, ofCommands, ofPolls, ofNone, countOf, Outcome, step}
 use Rattle.paper.specs.Runs.{Call}
 
 -- each call's frame and the reply to it, in order
@@ -25,10 +25,10 @@ history c (x ∷ xs) =
     let o : Outcome = step c (x .bytes) (x .room) in
     (frameOf (x .bytes), o .reply) ∷ history (o .next) xs
 
--- how many pass a test of frame and reply
-abbrev pub howMany : (Frame → ℕ → Bool) → List (Frame × ℕ) → ℕ
+-- how many pass a test of whose count they raise, and of the reply
+abbrev pub howMany : (Count → ℕ → Bool) → List (Frame × ℕ) → ℕ
 howMany test [] = 0
-howMany test (h ∷ hs) = cond (test (h .0) (h .1)) 1 0 + howMany test hs
+howMany test (h ∷ hs) = cond (test (countOf (h .0)) (h .1)) 1 0 + howMany test hs
 
 -- ---- whose frame it is
 
@@ -38,39 +38,27 @@ sameChannel cdmuA cdmuB = false
 sameChannel cdmuB cdmuA = false
 sameChannel cdmuB cdmuB = true
 
-abbrev pub broadcastOn : Channel → Frame → Bool
-broadcastOn cc (broadcast dd time altitude spin phase) = sameChannel cc dd
-broadcastOn cc (command dd id sequence parameters) = false
-broadcastOn cc (tick r) = false
-broadcastOn cc (sample s x) = false
-broadcastOn cc (poll dd) = false
-broadcastOn cc (status dd low flags) = false
-broadcastOn cc (analogue bytes) = false
-broadcastOn cc faulty = false
+abbrev pub broadcastOn : Channel → Count → Bool
+broadcastOn cc (ofBroadcasts dd) = sameChannel cc dd
+broadcastOn cc (ofCommands dd) = false
+broadcastOn cc (ofPolls dd) = false
+broadcastOn cc ofNone = false
 
-abbrev pub commandOn : Channel → Frame → Bool
-commandOn cc (broadcast dd time altitude spin phase) = false
-commandOn cc (command dd id sequence parameters) = sameChannel cc dd
-commandOn cc (tick r) = false
-commandOn cc (sample s x) = false
-commandOn cc (poll dd) = false
-commandOn cc (status dd low flags) = false
-commandOn cc (analogue bytes) = false
-commandOn cc faulty = false
+abbrev pub commandOn : Channel → Count → Bool
+commandOn cc (ofBroadcasts dd) = false
+commandOn cc (ofCommands dd) = sameChannel cc dd
+commandOn cc (ofPolls dd) = false
+commandOn cc ofNone = false
 
 -- on either channel
-abbrev pub isCommand : Frame → Bool
-isCommand f = commandOn cdmuA f || commandOn cdmuB f
+abbrev pub isCommand : Count → Bool
+isCommand k = commandOn cdmuA k || commandOn cdmuB k
 
-abbrev pub pollOn : Channel → Frame → Bool
-pollOn cc (broadcast dd time altitude spin phase) = false
-pollOn cc (command dd id sequence parameters) = false
-pollOn cc (tick r) = false
-pollOn cc (sample s x) = false
-pollOn cc (poll dd) = sameChannel cc dd
-pollOn cc (status dd low flags) = false
-pollOn cc (analogue bytes) = false
-pollOn cc faulty = false
+abbrev pub pollOn : Channel → Count → Bool
+pollOn cc (ofBroadcasts dd) = false
+pollOn cc (ofCommands dd) = false
+pollOn cc (ofPolls dd) = sameChannel cc dd
+pollOn cc ofNone = false
 
 -- ---- the numbers of a history
 
@@ -78,25 +66,25 @@ abbrev pub isAccepted : ℕ → Bool
 isAccepted n = eqb n 0
 
 -- "An accepted broadcast raises its count"; "A broadcast refused with 5 raises only its channel's broadcast count."
-abbrev pub raisesBroadcasts : Channel → Frame → ℕ → Bool
-raisesBroadcasts cc f n = broadcastOn cc f && (isAccepted n || eqb n 5)
+abbrev pub raisesBroadcasts : Channel → Count → ℕ → Bool
+raisesBroadcasts cc k n = broadcastOn cc k && (isAccepted n || eqb n 5)
 
 -- "An accepted command first raises its packet count"; "A command refused with 2, 3, 4 or 7 raises its channel's command packet
 -- count"
-abbrev pub raisesPackets : Channel → Frame → ℕ → Bool
-raisesPackets cc f n = commandOn cc f && (isAccepted n || isError n)
+abbrev pub raisesPackets : Channel → Count → ℕ → Bool
+raisesPackets cc k n = commandOn cc k && (isAccepted n || isError n)
 
 -- "An accepted command first raises .. the command count"
-abbrev pub raisesCommands : Frame → ℕ → Bool
-raisesCommands f n = isCommand f && isAccepted n
+abbrev pub raisesCommands : Count → ℕ → Bool
+raisesCommands k n = isCommand k && isAccepted n
 
 -- "that channel's telemetry count .., the count rising afterwards": polls made
-abbrev pub raisesTelemetry : Channel → Frame → ℕ → Bool
-raisesTelemetry cc f n = pollOn cc f && isAccepted n
+abbrev pub raisesTelemetry : Channel → Count → ℕ → Bool
+raisesTelemetry cc k n = pollOn cc k && isAccepted n
 
 -- "A command refused with 2, 3, 4 or 7 raises .. the error count"
-abbrev pub raisesErrors : Frame → ℕ → Bool
-raisesErrors f n = isCommand f && isError n
+abbrev pub raisesErrors : Count → ℕ → Bool
+raisesErrors k n = isCommand k && isError n
 
 abbrev pub broadcastsOn : Channel → List (Frame × ℕ) → ℕ
 broadcastsOn cc = howMany (raisesBroadcasts cc)
@@ -118,7 +106,7 @@ errorsIn = howMany raisesErrors
 -- The sample with which an open packet is full closes it: its datastream packet.
 unfoldable pub fullPacket : Controller → ℕ → List ℕ → List ℕ
 fullPacket c s x =
-    let o : Open = joinedBy (c .opened s) (stampNow c s) x in
+    let o : Open = joinedBy (c .streams .opened s) (stampNow c s) x in
     datastream (o .stamp) (dataOf s (o .samples))
 
 abbrev pub onlyIf : Bool → ℕ × List ℕ → List (ℕ × List ℕ)
@@ -160,9 +148,9 @@ pub record Counted (c : Controller) (h : List (Frame × ℕ)) (ps : List (ℕ ×
   pub telemetry : (cc : Channel) → at cc (c .tallies .telemetry) ≡ pollsOn cc h % 65536
   pub commands : c .tallies .commands ≡ commandsIn h % 65536
   pub errors : c .tallies .errors ≡ errorsIn h % 256
-  pub streams : (t : ℕ) → c .counts t ≡ piecesOf t ps % 4096
+  pub streams : (t : ℕ) → c .streams .counts t ≡ piecesOf t ps % 4096
 
--- ---- what they do to queue and counts
+-- ---- what they do to queue and counts: an accepted frame queues, then takes
 
 -- "Each piece takes its stream's count when queued": the pieces of packets that are queued one after the other, numbered from the
 -- streams' counts on, and the counts that follow. How a number goes on is a parameter, as it is of `numbered`.
@@ -179,26 +167,35 @@ numberedAll on counts (p ∷ ps) =
     numbered on s (counts s) (cut (pieces s) (p .1))
     ++ numberedAll on (put counts s (after on (counts s) (cut (pieces s) (p .1)))) ps
 
--- what an accepted frame leaves of the pieces that waited: a poll takes the first, and "waiting pieces of named streams go"
-abbrev pub spares : Decoded → List (Piece (List ℕ)) → List (Piece (List ℕ))
-spares (request (clear mask)) q = without (names mask) q
-spares (request housekeeping) q = q
-spares (request (setMode value)) q = q
-spares (refusal n) q = q
+-- What an accepted frame takes of the pieces that wait, its own among them: none; the first, by a poll; "waiting pieces of named
+-- streams go".
+pub data Takes : Type 0 where
+  nothing : Takes
+  theFirst : Takes
+  named : ℕ → Takes
 
-abbrev pub stillWaiting : Frame → List (Piece (List ℕ)) → List (Piece (List ℕ))
-stillWaiting (broadcast cc time altitude spin phase) q = q
-stillWaiting (command cc id sequence parameters) q = spares (decoded id parameters) q
-stillWaiting (tick r) q = q
-stillWaiting (sample s x) q = q
-stillWaiting (poll cc) q = drop 1 q
-stillWaiting (status cc low flags) q = q
-stillWaiting (analogue bytes) q = q
-stillWaiting faulty q = q
+abbrev pub clears : Decoded → Takes
+clears (request (clear mask)) = named mask
+clears (request housekeeping) = nothing
+clears (request (setMode value)) = nothing
+clears (refusal n) = nothing
 
--- the same of a call: a refused one leaves the queue as it is
-unfoldable pub sparedAt : Controller → Call → List (Piece (List ℕ)) → List (Piece (List ℕ))
-sparedAt c x q = cond (isAccepted (step c (x .bytes) (x .room) .reply)) (stillWaiting (frameOf (x .bytes)) q) q
+abbrev pub takes : Frame → Takes
+takes (broadcast cc time altitude spin phase) = nothing
+takes (command cc id sequence parameters) = clears (decoded id parameters)
+takes (tick r) = nothing
+takes (sample s x) = nothing
+takes (poll cc) = theFirst
+takes (status cc low flags) = nothing
+takes (analogue bytes) = nothing
+takes faulty = nothing
 
-unfoldable pub stillWaitingAt : Controller → Call → List (Piece (List ℕ))
-stillWaitingAt c x = sparedAt c x (c .queue)
+-- what it leaves of them
+abbrev pub leaves : Takes → List (Piece (List ℕ)) → List (Piece (List ℕ))
+leaves nothing q = q
+leaves theFirst q = drop 1 q
+leaves (named mask) q = without (names mask) q
+
+-- what one call takes: a refused one, nothing
+unfoldable pub takesAt : Controller → Call → Takes
+takesAt c x = cond (isAccepted (step c (x .bytes) (x .room) .reply)) (takes (frameOf (x .bytes))) nothing

@@ -11,7 +11,7 @@ use Rattle.paper.specs.Controller.{Controller, stampNow}
 
 -- "Each stream count there is the next one to be given, times 16, low nibble 0 ..; streams not carried show 0."
 abbrev pub countField : Controller → ℕ → List ℕ
-countField c s = bytes16 (cond (carried s) (c .counts s * 16) 0)
+countField c s = bytes16 (cond (carried s) (c .streams .counts s * 16) 0)
 
 -- the fields of n streams from s on
 abbrev pub countFields : Controller → ℕ → ℕ → List ℕ

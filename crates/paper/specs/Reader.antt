@@ -9,7 +9,6 @@ use Rattle.wire.specs.Wire.{be16}
 use Rattle.paper.specs.Streams.{pieces, listed, carried}
 use Rattle.paper.specs.Packets.{joined}
 use Rattle.paper.specs.Queue.{put}
-use Rattle.paper.specs.Step.{Lent, unfit, holds, isUnfit, first}
 
 -- ---- the record of one stream
 

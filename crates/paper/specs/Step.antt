@@ -2,7 +2,7 @@
 -- changes, and one call of the controller.
 -- Assumes nothing.
 use mathlib.Core.Bool.{Bool, true, false, cond, not, _&&_, _||_}
-use mathlib.Core.List.{List, [], _∷_}
+use mathlib.Core.List.{List, [], _∷_, map}
 use Prim.Native.Nat.{ℕ}
 use lib.Dec.{eqb, leb, ltb}
 use lib.ListN.{length}
@@ -13,86 +13,14 @@ use Rattle.paper.specs.Commands.{Request, clear, housekeeping, setMode, 
 use Rattle.paper.specs.Streams.{acc-i, hk, Form, ofBytes, of12Bits, pieces, width, form, takenIn}
 use Rattle.paper.specs.Streams as table
 use Rattle.paper.specs.Queue.{free}
-use Rattle.paper.specs.Controller.{raisedAt, raised8, Controller, withTallies}
+use Rattle.paper.specs.Controller.{raisedAt, raised8, Tallies, withBroadcasts, withPackets, withError, Controller, withTallies}
 use Rattle.paper.specs.Acts.{completes, closes, accepted, answer}
 
 -- ---- when each reply is given
 
--- "1: empty, unknown kind or channel, or wrong size above"
-abbrev pub wrongShape : Frame → Bool
-wrongShape (broadcast cc time altitude spin phase) = false
-wrongShape (command cc id sequence parameters) = false
-wrongShape (tick r) = false
-wrongShape (sample s x) = false
-wrongShape (poll cc) = false
-wrongShape (status cc low flags) = false
-wrongShape (analogue bytes) = false
-wrongShape faulty = true
-
--- "2: command id or stream not carried"; "Sample frames exist for 4, 5, 6, 9 and B; any other stream in one gets 2."
-abbrev pub notCarried : Frame → Bool
-notCarried (broadcast cc time altitude spin phase) = false
-notCarried (command cc id sequence parameters) = eqb (refusedWith (decoded id parameters)) 2
-notCarried (tick r) = false
-notCarried (sample s x) = not (table.sampled s)
-notCarried (poll cc) = false
-notCarried (status cc low flags) = false
-notCarried (analogue bytes) = false
-notCarried faulty = false
-
--- "3: wrong parameter or sample length"
-abbrev pub wrongLength : Frame → Bool
-wrongLength (broadcast cc time altitude spin phase) = false
-wrongLength (command cc id sequence parameters) = eqb (refusedWith (decoded id parameters)) 3
-wrongLength (tick r) = false
-wrongLength (sample s x) = not (eqb (length x) (width s))
-wrongLength (poll cc) = false
-wrongLength (status cc low flags) = false
-wrongLength (analogue bytes) = false
-wrongLength faulty = false
-
--- "DEN comes as two bytes, at most 0FFF (else 4)"
-abbrev pub tooGreat : Form → List ℕ → Bool
-tooGreat ofBytes x = false
-tooGreat of12Bits x = ltb 0x0FFF (be16 x 0)
-
--- "4: value out of range"; "A tick carries 0 to 4095 (else 4)"
-abbrev pub outOfRange : Frame → Bool
-outOfRange (broadcast cc time altitude spin phase) = false
-outOfRange (command cc id sequence parameters) = eqb (refusedWith (decoded id parameters)) 4
-outOfRange (tick r) = ltb 4095 r
-outOfRange (sample s x) = tooGreat (form s) x
-outOfRange (poll cc) = false
-outOfRange (status cc low flags) = false
-outOfRange (analogue bytes) = false
-outOfRange faulty = false
-
--- "5: broadcast seconds below the last accepted"
-abbrev pub late : Frame → Controller → Bool
-late (broadcast cc time altitude spin phase) c = ltb (seconds time) (seconds (c .clock .time))
-late (command cc id sequence parameters) c = false
-late (tick r) c = false
-late (sample s x) c = false
-late (poll cc) c = false
-late (status cc low flags) c = false
-late (analogue bytes) c = false
-late faulty c = false
-
--- "6: sample not taken in this mode"
-abbrev pub notTaken : Frame → Controller → Bool
-notTaken (broadcast cc time altitude spin phase) c = false
-notTaken (command cc id sequence parameters) c = false
-notTaken (tick r) c = false
-notTaken (sample s x) c = not (takenIn s (c .standing .mode))
-notTaken (poll cc) c = false
-notTaken (status cc low flags) c = false
-notTaken (analogue bytes) c = false
-notTaken faulty c = false
-
--- "7: too few free queue slots". Housekeeping queues a packet; a completing tick: "If seven slots are not free that tick is
--- refused with 7"; "A closing sample without room gets 7 and isn't kept."
+-- "7: too few free queue slots"
 abbrev pub crowded : Controller → ℕ → Bool
-crowded c s = ltb (free (c .queue)) (pieces s)
+crowded c s = ltb (free (c .streams .queue)) (pieces s)
 
 abbrev pub queues : Decoded → Bool
 queues (request (clear mask)) = false
@@ -100,28 +28,38 @@ queues (request housekeeping) = true
 queues (request (setMode value)) = false
 queues (refusal n) = false
 
-abbrev pub noRoom : Frame → Controller → Bool
-noRoom (broadcast cc time altitude spin phase) c = false
-noRoom (command cc id sequence parameters) c = queues (decoded id parameters) && crowded c hk
-noRoom (tick r) c = completes c && crowded c acc-i
-noRoom (sample s x) c = closes c s && crowded c s
-noRoom (poll cc) c = false
-noRoom (status cc low flags) c = false
-noRoom (analogue bytes) c = false
-noRoom faulty c = false
+-- "DEN comes as two bytes, at most 0FFF (else 4)"
+abbrev pub tooGreat : Form → List ℕ → Bool
+tooGreat ofBytes x = false
+tooGreat of12Bits x = ltb 0x0FFF (be16 x 0)
 
--- "9: poll, queue empty"
-abbrev pub nothingWaits : Frame → Controller → Bool
-nothingWaits (broadcast cc time altitude spin phase) c = false
-nothingWaits (command cc id sequence parameters) c = false
-nothingWaits (tick r) c = false
-nothingWaits (sample s x) c = false
-nothingWaits (poll cc) c = eqb (length (c .queue)) 0
-nothingWaits (status cc low flags) c = false
-nothingWaits (analogue bytes) c = false
-nothingWaits faulty c = false
-
--- ---- the order
+-- The grounds on which each kind of frame is refused: the reply's number, and whether it applies.
+-- "1: empty, unknown kind or channel, or wrong size above"; "2: command id or stream not carried"; "3: wrong parameter or sample
+-- length"; "4: value out of range"; "5: broadcast seconds below the last accepted"; "6: sample not taken in this mode"; "7: too
+-- few free queue slots"; "9: poll, queue empty"
+abbrev pub grounds : Controller → Frame → List (ℕ × Bool)
+grounds c (broadcast cc time altitude spin phase) = (5, ltb (seconds time) (seconds (c .clock .time))) ∷ []
+-- Housekeeping queues a packet.
+grounds c (command cc id sequence parameters) =
+    (2, eqb (refusedWith (decoded id parameters)) 2)
+    ∷ (3, eqb (refusedWith (decoded id parameters)) 3)
+    ∷ (4, eqb (refusedWith (decoded id parameters)) 4)
+    ∷ (7, queues (decoded id parameters) && crowded c hk)
+    ∷ []
+-- "A tick carries 0 to 4095 (else 4)"; a tick that completes a record: "If seven slots are not free that tick is refused with 7"
+grounds c (tick r) = (4, ltb 4095 r) ∷ (7, completes c && crowded c acc-i) ∷ []
+-- "Sample frames exist for 4, 5, 6, 9 and B; any other stream in one gets 2."; "A closing sample without room gets 7 and isn't kept."
+grounds c (sample s x) =
+    (2, not (table.sampled s))
+    ∷ (3, not (eqb (length x) (width s)))
+    ∷ (4, tooGreat (form s) x)
+    ∷ (6, not (takenIn s (c .standing .mode)))
+    ∷ (7, closes c s && crowded c s)
+    ∷ []
+grounds c (poll cc) = (9, eqb (length (c .streams .queue)) 0) ∷ []
+grounds c (status cc low flags) = []
+grounds c (analogue bytes) = []
+grounds c faulty = (1, true) ∷ []
 
 -- What a call finds in the lent bytes: "10: state buffer shorter than the length docs/ names .., or a number kept in it outside
 -- its range", or a controller.
@@ -133,30 +71,30 @@ abbrev pub isUnfit : {X : Type 0} → Lent X → Bool
 isUnfit unfit = true
 isUnfit (holds x) = false
 
--- a test of the controller that is held
-abbrev pub asked : {X : Type 0} → Lent X → (X → Bool) → Bool
-asked unfit test = false
-asked (holds x) test = test x
+-- where no controller is held, there is none to ask
+abbrev pub groundsIn : Lent Controller → Frame → List (ℕ × Bool)
+groundsIn unfit f = []
+groundsIn (holds c) f = grounds c f
+
+-- ---- the order
+
+-- whether the ground with this number applies; one that is not listed does not
+abbrev pub applies : List (ℕ × Bool) → ℕ → Bool
+applies [] n = false
+applies (g ∷ gs) n = cond (eqb (g .0) n) (g .1) (applies gs n)
 
 -- "the first that applies is given", 0 where none does
 abbrev pub first : List (ℕ × Bool) → ℕ
 first [] = 0
 first (t ∷ ts) = cond (t .1) (t .0) (first ts)
 
--- "Tested in the order 10, 8, 1, 2, 3, 4, 5, 6, 7, 9"; "8: output shorter than 126 bytes"
+-- "Tested in the order 10, 8, 1, 2, 3, 4, 5, 6, 7, 9"
+abbrev pub order : List ℕ
+order = 10 ∷ 8 ∷ 1 ∷ 2 ∷ 3 ∷ 4 ∷ 5 ∷ 6 ∷ 7 ∷ 9 ∷ []
+
+-- the grounds in that order, those of any frame among them; "8: output shorter than 126 bytes"
 abbrev pub tests : Lent Controller → Frame → ℕ → List (ℕ × Bool)
-tests l f room =
-    (10, isUnfit l)
-    ∷ (8, ltb room 126)
-    ∷ (1, wrongShape f)
-    ∷ (2, notCarried f)
-    ∷ (3, wrongLength f)
-    ∷ (4, outOfRange f)
-    ∷ (5, asked l (late f))
-    ∷ (6, asked l (notTaken f))
-    ∷ (7, asked l (noRoom f))
-    ∷ (9, asked l (nothingWaits f))
-    ∷ []
+tests l f room = map (λ n. (n, applies ((10, isUnfit l) ∷ (8, ltb room 126) ∷ groundsIn l f) n)) order
 
 unfoldable pub reply : Lent Controller → Frame → ℕ → ℕ
 reply l f room = first (tests l f room)
@@ -165,59 +103,64 @@ reply l f room = first (tests l f room)
 
 -- "A broadcast refused with 5 raises only its channel's broadcast count."
 unfoldable pub lateHeard : Controller → Channel → Controller
-lateHeard c cc =
-    withTallies c
-    (record {
-      broadcasts = raisedAt cc (c .tallies .broadcasts);
-      packets = c .tallies .packets;
-      telemetry = c .tallies .telemetry;
-      commands = c .tallies .commands;
-      errors = c .tallies .errors;
-      code = c .tallies .code;
-      sequence = c .tallies .sequence;
-      id = c .tallies .id;
-    })
+lateHeard c cc = withTallies c (withBroadcasts (c .tallies) (raisedAt cc (c .tallies .broadcasts)))
 
 -- "A command refused with 2, 3, 4 or 7 raises its channel's command packet count and the error count and sets the error code
 -- to the reply number."
 unfoldable pub erred : Controller → Channel → ℕ → Controller
 erred c cc n =
-    withTallies c
-    (record {
-      broadcasts = c .tallies .broadcasts;
-      packets = raisedAt cc (c .tallies .packets);
-      telemetry = c .tallies .telemetry;
-      commands = c .tallies .commands;
-      errors = raised8 (c .tallies .errors);
-      code = n;
-      sequence = c .tallies .sequence;
-      id = c .tallies .id;
-    })
+    let t : Tallies = withPackets (c .tallies) (raisedAt cc (c .tallies .packets)) in
+    withTallies c (withError t (raised8 (c .tallies .errors)) n)
 
 abbrev pub isError : ℕ → Bool
 isError n = eqb n 2 || (eqb n 3 || (eqb n 4 || eqb n 7))
 
+-- Whose count a frame raises, and on which channel: that of broadcasts, of commands, of polls, or none.
+pub data Count : Type 0 where
+  ofBroadcasts : Channel → Count
+  ofCommands : Channel → Count
+  ofPolls : Channel → Count
+  ofNone : Count
+
+abbrev pub countOf : Frame → Count
+countOf (broadcast cc time altitude spin phase) = ofBroadcasts cc
+countOf (command cc id sequence parameters) = ofCommands cc
+countOf (tick r) = ofNone
+countOf (sample s x) = ofNone
+countOf (poll cc) = ofPolls cc
+countOf (status cc low flags) = ofNone
+countOf (analogue bytes) = ofNone
+countOf faulty = ofNone
+
+-- what a frame refused with n changes: one of the two, or nothing
+pub data Change : Type 0 where
+  unchanged : Change
+  lateOn : Channel → Change
+  errorOn : Channel → ℕ → Change
+
+abbrev pub change : ℕ → Count → Change
+change n (ofBroadcasts cc) = cond (eqb n 5) (lateOn cc) unchanged
+change n (ofCommands cc) = cond (isError n) (errorOn cc n) unchanged
+change n (ofPolls cc) = unchanged
+change n ofNone = unchanged
+
+abbrev pub changed : Change → Controller → Controller
+changed unchanged c = c
+changed (lateOn cc) c = lateHeard c cc
+changed (errorOn cc n) c = erred c cc n
+
+abbrev pub isListed : Change → Bool
+isListed unchanged = false
+isListed (lateOn cc) = true
+isListed (errorOn cc n) = true
+
 -- "Every other refusal changes nothing."
 unfoldable pub refused : ℕ → Frame → Controller → Controller
-refused n (broadcast cc time altitude spin phase) c = cond (eqb n 5) (lateHeard c cc) c
-refused n (command cc id sequence parameters) c = cond (isError n) (erred c cc n) c
-refused n (tick r) c = c
-refused n (sample s x) c = c
-refused n (poll cc) c = c
-refused n (status cc low flags) c = c
-refused n (analogue bytes) c = c
-refused n faulty c = c
+refused n f c = changed (change n (countOf f)) c
 
 -- the refusals for which document 01 lists a change
 abbrev pub changesListed : ℕ → Frame → Bool
-changesListed n (broadcast cc time altitude spin phase) = eqb n 5
-changesListed n (command cc id sequence parameters) = isError n
-changesListed n (tick r) = false
-changesListed n (sample s x) = false
-changesListed n (poll cc) = false
-changesListed n (status cc low flags) = false
-changesListed n (analogue bytes) = false
-changesListed n faulty = false
+changesListed n f = isListed (change n (countOf f))
 
 -- ---- one call
 

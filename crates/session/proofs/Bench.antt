@@ -16,10 +16,10 @@ use Rattle.hexline.specs.Frames.{framesOf, EachOfBytes, answers}
 use Rattle.hexline.proofs.Frames.{spoken-answers, frames-of-bytes}
 use Rattle.paper.specs.Frames.{Frame, faulty, byte, kind, frameOf}
 use Rattle.paper.specs.Controller.{Controller, start}
-use Rattle.paper.specs.Step.{wrongShape, Outcome, step}
+use Rattle.paper.specs.Step.{Outcome, step}
 use Rattle.paper.specs.Runs.{replies}
 use Rattle.paper.proofs.Shapes.{either, sided}
-use Rattle.paper.proofs.Refusals.{passed, reply-is, silent}
+use Rattle.paper.proofs.Refusals.{Clear, passed, reply-is, silent}
 use Rattle.paper.proofs.Kept.{Kept, kept-start, kept-step, written as writtenFor, writes}
 use Rattle.state.specs.Layout.{stateBytes}
 use Rattle.state.specs.View.{view}
@@ -37,11 +37,11 @@ use Rattle.session.specs.Says.{benchLine, linesOf, lent}
 -- ---- how many bytes an accepted frame writes: by its first byte, as by its row of the table
 
 -- of a frame that is not faulty
-abbrev Counts : List ℕ → Frame → Type 0
-Counts f x = wrongShape x ≡ false → written 0 f ≡ writtenFor x
+abbrev Counts : Controller → List ℕ → Frame → Type 0
+Counts c f x = Clear c x 1 → written 0 f ≡ writtenFor x
 
-module _ (f : List ℕ) where
-  none : Counts f faulty
+module _ (c : Controller) (f : List ℕ) where
+  none : Counts c f faulty
   none e = absurd (true≢false e)
 
   -- a first byte k, tested with the frame's size
@@ -54,16 +54,16 @@ module _ (f : List ℕ) where
       first false p = p
 
   -- row by row
-  pub counts : Counts f (frameOf f)
+  pub counts : Counts c f (frameOf f)
   unfolding frameOf
   counts =
-      either (Counts f) (kind f 1 && eqb (length f) 8) _ _ (λ e. sided (Counts f) (byte f 1) _ (λ c n. by 1 (eqb (length f) 8) e) none)
-      (either (Counts f) (kind f 2 && leb 6 (length f)) _ _ (λ e. sided (Counts f) (byte f 1) _ (λ c n. by 2 (leb 6 (length f)) e) none)
-      (either (Counts f) (kind f 3 && eqb (length f) 3) _ _ (λ e n. by 3 (eqb (length f) 3) e)
-      (either (Counts f) (kind f 4 && leb 2 (length f)) _ _ (λ e n. by 4 (leb 2 (length f)) e)
-      (either (Counts f) (kind f 5 && eqb (length f) 2) _ _ (λ e. sided (Counts f) (byte f 1) _ (λ c n. by 5 (eqb (length f) 2) e) none)
-      (either (Counts f) (kind f 6 && eqb (length f) 4) _ _ (λ e. sided (Counts f) (byte f 1) _ (λ c n. by 6 (eqb (length f) 4) e) none)
-      (either (Counts f) (kind f 7 && eqb (length f) 59) _ _ (λ e n. by 7 (eqb (length f) 59) e) none))))))
+      either (Counts c f) (kind f 1 && eqb (length f) 8) _ _ (λ e. sided (Counts c f) (byte f 1) _ (λ cc n. by 1 (eqb (length f) 8) e) none)
+      (either (Counts c f) (kind f 2 && leb 6 (length f)) _ _ (λ e. sided (Counts c f) (byte f 1) _ (λ cc n. by 2 (leb 6 (length f)) e) none)
+      (either (Counts c f) (kind f 3 && eqb (length f) 3) _ _ (λ e n. by 3 (eqb (length f) 3) e)
+      (either (Counts c f) (kind f 4 && leb 2 (length f)) _ _ (λ e n. by 4 (leb 2 (length f)) e)
+      (either (Counts c f) (kind f 5 && eqb (length f) 2) _ _ (λ e. sided (Counts c f) (byte f 1) _ (λ cc n. by 5 (eqb (length f) 2) e) none)
+      (either (Counts c f) (kind f 6 && eqb (length f) 4) _ _ (λ e. sided (Counts c f) (byte f 1) _ (λ cc n. by 6 (eqb (length f) 4) e) none)
+      (either (Counts c f) (kind f 7 && eqb (length f) 59) _ _ (λ e n. by 7 (eqb (length f) 59) e) none))))))
 
 -- ---- one frame
 
@@ -80,7 +80,7 @@ front c f room o k = at (eqb (step c f room .reply) 0) refl
     at true e =
         let r : p .reply ≡ 0 = eqb-true (p .reply) 0 e in
         let n : written (p .reply) f ≡ writtenFor (frameOf f) =
-        ap (λ (m : ℕ). written m f) r ∙ counts f (passed c (frameOf f) room (sym (reply-is c f room) ∙ r) .shape) in
+        ap (λ (m : ℕ). written m f) r ∙ counts c f (passed c (frameOf f) room (sym (reply-is c f room) ∙ r) .shape) in
         take-at (p .out) (drop (0 + length (p .out)) o) (written (p .reply) f) (writes c f room k r ∙ sym n)
     at false e = rw e (sym (silent c f room (eqb-false (p .reply) 0 e)))
 

@@ -24,7 +24,7 @@ use Rattle.paper.specs.Queue.{piece}
 use Rattle.paper.specs.Controller.{nothingOpen, withStreams}
 use Rattle.paper.proofs.Table.{several-rules}
 use Rattle.state.specs.Layout.{flagAt, impactTimeAt, impactModeAt, windowAt, placeAt, furtherAt, firstAt, waitingAt, housedAt, streams, countAt, openAt, samplesAt, ringAt, slotsAt, slotAt, stateBytes}
-use Rattle.state.specs.View.{clockIn, standingIn, collectionOf, ringFrom, impactIn, talliesIn, twelve, kept, samplesIn, openOf, heldIn, openIn, countIn, pieceIn, piecesIn, view}
+use Rattle.state.specs.View.{clockIn, standingIn, collectionOf, ringFrom, impactIn, talliesIn, twelve, kept, samplesIn, openOf, heldIn, openIn, countIn, pieceIn, piecesIn, streamsIn, view}
 use Rattle.state.specs.Range.{Fit}
 
 -- ---- two lists that agree on the bytes from lo to below hi
@@ -301,7 +301,7 @@ module _ (x y : List ℕ) (wx : stateBytes ≤ length x) (wy : stateBytes ≤ le
 -- bytes that agree everywhere but in the queue's numbers, the streams' counts, the open packets and the slots
 pub streams-same : (x y : List ℕ) → Fit y → stateBytes ≤ length x → Same x y 0 firstAt → Same x y housedAt (countAt 0)
     → Same x y ringAt slotsAt
-    → view x ≡ withStreams (view y) (openIn x) (countIn x) (piecesIn x (getD x firstAt 0) (getD x waitingAt 0))
+    → view x ≡ withStreams (view y) (streamsIn x)
 unfolding view
 streams-same x y f w p q r i =
     record {
@@ -312,9 +312,7 @@ streams-same x y f w p q r i =
           (same-within 17 27 p (omega arith) (omega arith)) r i;
       tallies = tallies-same x y (same-within 27 45 p (omega arith) (omega arith)) i;
       housed = housed-same x y w (f .whole) q i;
-      opened = openIn x;
-      counts = countIn x;
-      queue = piecesIn x (getD x firstAt 0) (getD x waitingAt 0);
+      streams = streamsIn x;
     }
 
 -- ---- ranges

@@ -15,7 +15,7 @@ use Rattle.paper.specs.Impact.{Impact, Stamp, Collection, idle, running}
 use Rattle.paper.specs.Streams.{Form, ofBytes, of12Bits, perPacket, width, form}
 use Rattle.paper.specs.Packets.{chunks}
 use Rattle.paper.specs.Queue.{Piece, piece}
-use Rattle.paper.specs.Controller.{Both, Tallies, Open, nothingOpen, Controller}
+use Rattle.paper.specs.Controller.{Both, Tallies, Open, nothingOpen, Streams, Controller}
 use Rattle.state.specs.Layout.{timeAt, altitudeAt, spinAt, phaseAt, mAt, nibbleAt, entryTimeAt, oldAt, entryAltitudeAt, referenceAt, flagAt, impactTimeAt, impactModeAt, windowAt, placeAt, furtherAt, commandsAt, broadcastsAt, packetsAt, telemetryAt, errorsAt, codeAt, sequenceAt, idAt, firstAt, waitingAt, housedAt, streams, countAt, openAt, samplesAt, ringAt, slotAt}
 
 unfoldable pub clockIn : List ℕ → Clock
@@ -105,6 +105,9 @@ unfoldable pub piecesIn : List ℕ → ℕ → ℕ → List (Piece (List ℕ))
 piecesIn s i zero = []
 piecesIn s i (suc n) = pieceIn s (i % 48) ∷ piecesIn s (i + 1) n
 
+abbrev pub streamsIn : List ℕ → Streams
+streamsIn s = record { opened = openIn s; counts = countIn s; queue = piecesIn s (getD s firstAt 0) (getD s waitingAt 0) }
+
 unfoldable pub view : List ℕ → Controller
 view s =
     record {
@@ -113,7 +116,5 @@ view s =
       impact = impactIn s;
       tallies = talliesIn s;
       housed = part s housedAt 58;
-      opened = openIn s;
-      counts = countIn s;
-      queue = piecesIn s (getD s firstAt 0) (getD s waitingAt 0);
+      streams = streamsIn s;
     }

@@ -37,8 +37,8 @@ module _ (s : List ℕ) (r : ℕ) (f : Fit s) (b : r < 4096) where
   unfolding counted
   read-waits =
       sym (queue-length (takenOn (countedOn s) r))
-      ∙ ap (λ (c : Controller). length (c .queue)) (taken-view (countedOn s) r (counted-fit s f) b)
-      ∙ ap (λ (c : Controller). length (c .queue)) (counted-view s f)
+      ∙ ap (λ (c : Controller). length (c .streams .queue)) (taken-view (countedOn s) r (counted-fit s f) b)
+      ∙ ap (λ (c : Controller). length (c .streams .queue)) (counted-view s f)
       ∙ queue-length s
 
   pub read-further : be16 (takenOn (countedOn s) r) furtherAt ≡ be16 s furtherAt
