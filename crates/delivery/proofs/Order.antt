@@ -98,14 +98,39 @@ Orderly pre q (own p ∷ ys) =
     × Orderly (pre ++ (own p ∷ [])) Y ys)
 
 sub-split : (p : Polled) (ps : List Polled) (q : List (Piece (List ℕ))) → Sub (p ∷ ps) q
-    → (X : List (Piece (List ℕ))) × (z : Piece (List ℕ)) × (Y : List (Piece (List ℕ))) × Next p q X z Y × Sub ps Y
+    → (X : List (Piece (List ℕ))) × (z : Piece (List ℕ)) × (Y : List (Piece (List ℕ))) × Next p q X z Y × Sub ps (z ∷ Y)
 sub-split p ps (z ∷ q) (inl h) = ([], z, q, (refl, h .0, h .1), h .2)
 sub-split p ps (z ∷ q) (inr h) =
     let r = sub-split p ps q h in (z ∷ r .0, r .1, r .2, (ap (λ l. z ∷ l) (r .3 .0), r .3 .1, r .3 .2), r .4)
 
 sub-tail : (p : Polled) (ps : List Polled) (q : List (Piece (List ℕ))) → Sub (p ∷ ps) q → Sub ps q
-sub-tail p ps (z ∷ q) (inl h) = sub-skip z ps q (h .2)
+sub-tail p ps (z ∷ q) (inl h) = h .2
 sub-tail p ps (z ∷ q) (inr h) = sub-skip z ps q (sub-tail p ps q h)
+
+-- Packets still to come of pieces q, and before them perhaps some of pieces that arrived.
+abbrev Later : List Arrival → List Polled → List (Piece (List ℕ)) → Type 0
+Later pre [] q = Unit {0}
+Later pre (p ∷ ps) q = (In (p .number) (arrived (p .stream) pre) × Later pre ps q) ⊎ Sub (p ∷ ps) q
+
+later-sub : (pre : List Arrival) (ps : List Polled) (q : List (Piece (List ℕ))) → Sub ps q → Later pre ps q
+later-sub pre [] q h = tt
+later-sub pre (p ∷ ps) q h = inr h
+
+later-tail : (pre : List Arrival) (p : Polled) (ps : List Polled) (q : List (Piece (List ℕ))) → Later pre (p ∷ ps) q → Later pre ps q
+later-tail pre p ps q (inl h) = h .1
+later-tail pre p ps q (inr h) = later-sub pre ps q (sub-tail p ps q h)
+
+later-more : (pre ys : List Arrival) (ps : List Polled) (q : List (Piece (List ℕ))) → Later pre ps q → Later (pre ++ ys) ps q
+later-more pre ys [] q h = tt
+later-more pre ys (p ∷ ps) q (inl h) = inl (in-more (p .stream) (p .number) pre ys (h .0), later-more pre ys ps q (h .1))
+later-more pre ys (p ∷ ps) q (inr h) = inr h
+
+-- of a piece that arrived, and those behind it
+later-arrived : (pre : List Arrival) (z : Piece (List ℕ)) (ps : List Polled) (q : List (Piece (List ℕ)))
+    → In (z .count) (arrived (z .stream) pre) → Sub ps (z ∷ q) → Later pre ps q
+later-arrived pre z [] q i h = tt
+later-arrived pre z (p ∷ ps) q i (inl h) = inl (rw (h .0, h .1) at i, later-arrived pre z ps q i (h .2))
+later-arrived pre z (p ∷ ps) q i (inr h) = inr h
 
 -- the last arrival of a stream has arrived
 abbrev SeenAt : List Arrival → Option Polled → Type 0
@@ -121,25 +146,40 @@ orderly-repeats : (pre : List Arrival) (q : List (Piece (List ℕ))) (o : Option
 orderly-repeats pre q none ys h f g = f
 orderly-repeats pre q (some p) ys h f g = inl (h, g p)
 
-orderly : (fates : List Fate) (last : ℕ → Option Polled) (ps : List Polled) (q : List (Piece (List ℕ))) (pre : List Arrival) → Sub ps q
+orderly : (fates : List Fate) (last : ℕ → Option Polled) (ps : List Polled) (q : List (Piece (List ℕ))) (pre : List Arrival) → Later pre ps q
     → ((t : ℕ) → SeenAt pre (last t)) → Orderly pre q (arrivalsFrom last ps fates)
 unfolding arrivalsFrom put
 orderly [] last ps q pre h m = tt
 orderly (lost ∷ fs) last [] q pre h m = orderly fs last [] q pre h m
-orderly (lost ∷ fs) last (p ∷ ps) q pre h m = orderly fs last ps q pre (sub-tail p ps q h) m
+orderly (lost ∷ fs) last (p ∷ ps) q pre h m = orderly fs last ps q pre (later-tail pre p ps q h) m
 orderly (came ∷ fs) last [] q pre h m = orderly fs last [] q pre h m
-orderly (came ∷ fs) last (p ∷ ps) q pre h m =
-    let r = sub-split p ps q h in
-    inr (r .0, r .1, r .2, r .3, orderly fs (put last (p .stream) (some p)) ps (r .2) (pre ++ (own p ∷ [])) (r .4) (λ t. at t (eqb (p .stream) t)))
+orderly (came ∷ fs) last (p ∷ ps) q pre h m = by h (λ r k. orderly fs (put last (p .stream) (some p)) ps r next k (λ t. at t (eqb (p .stream) t)))
   where
-    at : (t : ℕ) (b : Bool) → SeenAt (pre ++ (own p ∷ [])) (cond b (some p) (last t))
+    next : List Arrival
+    next = pre ++ (own p ∷ [])
+
+    at : (t : ℕ) (b : Bool) → SeenAt next (cond b (some p) (last t))
     at t true = in-new pre p
     at t false = seen-more pre (own p ∷ []) (last t) (m t)
+
+    arrivals : List Arrival
+    arrivals = arrivalsFrom (put last (p .stream) (some p)) ps fs
+
+    by : Later pre (p ∷ ps) q → ((r : List (Piece (List ℕ))) → Later next ps r → Orderly next r arrivals)
+        → (In (p .number) (arrived (p .stream) pre) × Orderly next q arrivals)
+        ⊎ ((X : List (Piece (List ℕ))) × (z : Piece (List ℕ)) × (Y : List (Piece (List ℕ))) × Next p q X z Y × Orderly next Y arrivals)
+    by (inl h) go = inl (h .0, go q (later-more pre (own p ∷ []) ps q (h .1)))
+    by (inr h) go =
+        let r = sub-split p ps q h in
+        let z : Piece (List ℕ) = r .1 in
+        let came-now : In (z .count) (arrived (z .stream) next) = rw (r .3 .1, r .3 .2) (in-new pre p) in
+        inr (r .0, z, r .2, r .3, go (r .2) (later-arrived next z ps (r .2) came-now (r .4)))
 orderly (again t ∷ fs) last ps q pre h m =
     orderly-repeats pre q (last t) (arrivalsFrom last ps fs) (m t) (orderly fs last ps q pre h m)
-    (λ p. orderly fs last ps q (pre ++ (own p ∷ [])) h (λ u. seen-more pre (own p ∷ []) (last u) (m u)))
+    (λ p. orderly fs last ps q (pre ++ (own p ∷ [])) (later-more pre (own p ∷ []) ps q h) (λ u. seen-more pre (own p ∷ []) (last u) (m u)))
 orderly (noise f ∷ fs) last ps q pre h m =
-    orderly fs last ps q (pre ++ (strange f ∷ [])) h (λ u. seen-more pre (strange f ∷ []) (last u) (m u))
+    orderly fs last ps q (pre ++ (strange f ∷ [])) (later-more pre (strange f ∷ []) ps q h)
+    (λ u. seen-more pre (strange f ∷ []) (last u) (m u))
 
 -- ---- numbers rise in each stream
 
@@ -471,7 +511,7 @@ stands sent ps fates h =
       split = refl;
       above = above-all sent (λ s. 0) (λ s. 0) (λ t. omega arith);
       below = λ t n i. absurd i;
-      goes = orderly fates (λ s. none) ps (numberedAll suc (λ s. 0) sent) [] h (λ t. tt);
+      goes = orderly fates (λ s. none) ps (numberedAll suc (λ s. 0) sent) [] (later-sub [] ps _ h) (λ t. tt);
     }
 
 -- nothing arrived, nothing whole

@@ -1,5 +1,6 @@
 -- The controller's run beside its numbers: its counts are the numbers modulo 4096; and the packets that it polls of a stream are
--- pieces of that stream under rising numbers, each of which the reader finds in the bytes with the body that was queued under it.
+-- pieces of that stream under numbers that never fall, each of which the reader finds in the bytes with the body that was queued
+-- under it.
 -- Assumes nothing.
 use mathlib.Core.Path.{_≡_, refl, sym, ap, ap₂, _∙_, subst}
 use mathlib.Core.Logic.{_⊎_, inl, inr}
@@ -247,12 +248,12 @@ rising-all s (p ∷ ps) N H lo q n l f = at (eqb (p .0) s) refl (λ G r m g k. r
         (rw (only-append (λ (r : Piece (List ℕ)). r .stream) s q front, only-numbered-other s (p .0) (N (p .0)) (cut (pieces (p .0)) (p .1)) e, append-nil (piecesIn s q)) f) in
         rw (← append-assoc q front (numberedAll suc M ps)) more
 
--- ---- of all streams: some of the pieces, in their order
+-- ---- of all streams: some of the pieces, in their order, each perhaps several times in a row
 
 abbrev pub Sub : List Polled → List (Piece (List ℕ)) → Type 0
 Sub [] q = Unit {0}
 Sub (p ∷ ps) [] = ⊥
-Sub (p ∷ ps) (z ∷ q) = ((z .stream ≡ p .stream) × (z .count ≡ p .number) × Sub ps q) ⊎ Sub (p ∷ ps) q
+Sub (p ∷ ps) (z ∷ q) = ((z .stream ≡ p .stream) × (z .count ≡ p .number) × Sub ps (z ∷ q)) ⊎ Sub (p ∷ ps) q
 
 pub sub-skip : (z : Piece (List ℕ)) (ps : List Polled) (q : List (Piece (List ℕ))) → Sub ps q → Sub ps (z ∷ q)
 sub-skip z [] q h = tt
@@ -261,7 +262,7 @@ sub-skip z (p ∷ ps) q h = inr h
 sub-keep : (z : Piece (List ℕ)) (ps : List Polled) (q r : List (Piece (List ℕ))) → ((ps′ : List Polled) → Sub ps′ q → Sub ps′ r)
     → Sub ps (z ∷ q) → Sub ps (z ∷ r)
 sub-keep z [] q r f h = tt
-sub-keep z (p ∷ ps) q r f (inl h) = inl (h .0, h .1, f ps (h .2))
+sub-keep z (p ∷ ps) q r f (inl h) = inl (h .0, h .1, sub-keep z ps q r f (h .2))
 sub-keep z (p ∷ ps) q r f (inr h) = inr (f (p ∷ ps) h)
 
 sub-without : (f : ℕ → Bool) (q T : List (Piece (List ℕ))) (ps : List Polled) → Sub ps (without f q ++ T) → Sub ps (q ++ T)
@@ -349,14 +350,15 @@ module _ (s : ℕ) (c : Controller) (w : Numbers) (k : Beside c w) (g : Readies 
 
 -- ---- a run
 
--- polled packets of stream s from number lo on, rising; the reader finds in each the body that H has under its number
+-- Polled packets of stream s from number lo on, none below the one before; the reader finds in each the body that H has under its
+-- number. (A poll takes what it shows, so no number comes twice; but nothing here needs that.)
 abbrev pub Fine : ℕ → List (List ℕ) → ℕ → List Polled → Type 0
 Fine s H lo [] = Unit {0}
 Fine s H lo (p ∷ ps) =
     (lo ≤ p .number) × (p .number < length H) × (packetOf (p .bytes) ≡ packet s (p .number % 4096) (getD H (p .number) []))
-    × Fine s H (suc (p .number)) ps
+    × Fine s H (p .number) ps
 
-pub fine-lower : (s : ℕ) (H : List (List ℕ)) (lo lo′ : ℕ) (ps : List Polled) → lo ≤ lo′ → Fine s H lo′ ps → Fine s H lo ps
+fine-lower : (s : ℕ) (H : List (List ℕ)) (lo lo′ : ℕ) (ps : List Polled) → lo ≤ lo′ → Fine s H lo′ ps → Fine s H lo ps
 fine-lower s H lo lo′ [] h f = tt
 fine-lower s H lo lo′ (p ∷ ps) h f = (omega (arith, f .0), f .1, f .2, f .3)
 
@@ -394,7 +396,7 @@ adds s H G lo waiting taken spared out rest (inr e) l f later =
             omega (arith, r .1, length-append H G),
             e .5 ∙ ap₂ (λ (u : ℕ) (x : List ℕ). packet u (p .count % 4096) x) (eqb-true (p .stream) s t)
                 (sym (List·getD-append H G [] (p .count) (r .1) ∙ r .2)),
-            more .0,
+            fine-lower s (H ++ G) (p .count) (suc (p .count)) (polledOf s rest) (omega arith) (more .0),
           ),
           ((p .count % 4096, p .body, e .5), more .1),
         )
@@ -443,7 +445,7 @@ module _ (sent : List (ℕ × List ℕ)) where
 
       rest : (s : ℕ) (b : Bool) (lo : ℕ) → Fine s (piecesQueued s sent) lo (cond b (p ∷ polledOf s ps) (polledOf s ps))
           → (lo′ : ℕ) × Fine s (piecesQueued s sent) lo′ (polledOf s ps)
-      rest s true lo h = (suc (p .number), h .3)
+      rest s true lo h = (p .number, h .3)
       rest s false lo h = (lo, h)
 
 pub polled-numbered : (calls : List Call) → Numbered (sentBy start calls) (polled calls)
@@ -535,7 +537,8 @@ sub-adds : (waiting taken spared T : List (Piece (List ℕ))) (out : List ℕ) (
     → Sub rest (spared ++ T) → Sub (map (written out) taken ++ rest) (waiting ++ T)
 sub-adds waiting taken spared T out rest (inl e) h = rw (e .0) (e .2 T rest h)
 sub-adds waiting taken spared T out rest (inr e) h =
-    rw (e .3, e .2) (inl (refl, refl, subst (λ (q : List (Piece (List ℕ))). Sub rest (q ++ T)) (e .4) h))
+    rw (e .3, e .2)
+    (inl (refl, refl, sub-skip (e .0) rest (e .1 ++ T) (subst (λ (q : List (Piece (List ℕ))). Sub rest (q ++ T)) (e .4) h)))
 
 polls-sub : (xs : List Call) (c : Controller) (w : Numbers) → Beside c w → Sizes c → Waits c
     → Sub (polledFrom c w xs) (w .waiting ++ numberedAll suc (w .queued) (sentBy c xs))

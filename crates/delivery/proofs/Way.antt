@@ -6,7 +6,9 @@ use mathlib.Core.Logic.{_⊎_, inl, inr}
 use mathlib.Core.Bool.{Bool, true, false, cond, false≢true}
 use mathlib.Core.Option.{Option, none, some}
 use mathlib.Core.List.{List, [], _∷_, _++_, map}
+use Prim.{Dec, yes, no}
 use Prim.Native.Nat.{ℕ, zero, suc, _+_, _%_, _≤_, _<_}
+use native.Mathlib.Decide.{decLe}
 use native.Mathlib.Omega.{arith}
 use lib.Dec.{eqb, lit≤}
 use lib.ListN.{length, getD, take}
@@ -20,7 +22,7 @@ use Rattle.paper.specs.Runs.{Call}
 use Rattle.delivery.specs.Demands.{Polled, polledOf, Chosen, Arrival, own, strange, ownOf, isOf, NoOthers, Gaps, Given, Fate, lost, came, again, noise, repeats, arrivalsFrom, NoPacket, Quiet, fatesOf}
 use Rattle.delivery.proofs.Arrivals.{In, Arrives, piece}
 use Rattle.delivery.proofs.Reading.{mine, packetsOf, Roomy, has-room}
-use Rattle.delivery.proofs.Polled.{Fine, fine-lower, Genuine, Genuines}
+use Rattle.delivery.proofs.Polled.{Fine, Genuine, Genuines}
 
 -- ---- what is known of arrivals
 
@@ -177,17 +179,21 @@ module _ (s : ℕ) (H : List (List ℕ)) where
   Open lo [] = Unit {0}
   Open lo (p ∷ ps) =
       ((suc (p .number) ≡ lo) ⊎ (lo ≤ p .number)) × (p .number < length H)
-      × (packetOf (p .bytes) ≡ packet s (p .number % 4096) (getD H (p .number) [])) × Fine s H (suc (p .number)) ps
+      × (packetOf (p .bytes) ≡ packet s (p .number % 4096) (getD H (p .number) [])) × Fine s H (p .number) ps
 
-  opens : (lo : ℕ) (ps : List Polled) → Fine s H lo ps → Open lo ps
-  opens lo [] f = tt
-  opens lo (p ∷ ps) f = (inr (f .0), f .1, f .2, f .3)
+  opens : (lo lo′ : ℕ) (ps : List Polled) → lo ≤ suc lo′ → Fine s H lo′ ps → Open lo ps
+  opens lo lo′ [] h f = tt
+  opens lo lo′ (p ∷ ps) h f = (at (decLe lo (p .number)), f .1, f .2, f .3)
+    where
+      at : Dec (lo ≤ p .number) → (suc (p .number) ≡ lo) ⊎ (lo ≤ p .number)
+      at (yes l) = inr l
+      at (no l) = inl (omega (arith, f .0))
 
   chosen-told : (ps qs : List Polled) (lo : ℕ) → Open lo ps → Chosen ps qs → Told lo qs
   chosen-told ps [] lo f c = tt
   chosen-told [] (q ∷ qs) lo f c = absurd c
   chosen-told (p ∷ ps) (q ∷ qs) lo f (inl c) =
-      chosen-told ps (q ∷ qs) lo (opens lo ps (fine-lower s H lo (suc (p .number)) ps (at (f .0)) (f .3))) c
+      chosen-told ps (q ∷ qs) lo (opens lo (p .number) ps (at (f .0)) (f .3)) c
     where
       at : (suc (p .number) ≡ lo) ⊎ (lo ≤ p .number) → lo ≤ suc (p .number)
       at (inl h) = omega arith
@@ -198,7 +204,7 @@ module _ (s : ℕ) (H : List (List ℕ)) where
 
   -- THE WAY: what is chosen of a stream's polled packets
   pub told : (ps qs : List Polled) → Fine s H 0 ps → Chosen ps qs → Told 0 qs
-  told ps qs f c = chosen-told ps qs 0 (opens 0 ps f) c
+  told ps qs f c = chosen-told ps qs 0 (opens 0 0 ps (omega arith) f) c
 
   -- ---- as the numbers of one stream's theorem
 
