@@ -12,6 +12,7 @@ use Rattle.paper.specs.Clock.{seconds}
 use Rattle.paper.specs.Commands.{Request, clear, housekeeping, setMode, Decoded, request, refusal, decoded, refusedWith}
 use Rattle.paper.specs.Streams.{acc-i, den, hk, pieces, width, takenIn}
 use Rattle.paper.specs.Streams as table
+use Rattle.paper.specs.Packets.{packetSize}
 use Rattle.paper.specs.Queue.{free}
 use Rattle.paper.specs.Controller.{raisedAt, raised8, Controller, withTallies}
 use Rattle.paper.specs.Acts.{completes, closes, accepted, answer}
@@ -142,7 +143,7 @@ first (t ∷ ts) = cond (t .1) (t .0) (first ts)
 abbrev pub tests : Lent Controller → Frame → ℕ → List (ℕ × Bool)
 tests l f room =
     (10, isUnfit l)
-    ∷ (8, ltb room 126)
+    ∷ (8, ltb room packetSize)
     ∷ (1, wrongShape f)
     ∷ (2, notCarried f)
     ∷ (3, wrongLength f)
