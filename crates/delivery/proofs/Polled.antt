@@ -22,7 +22,7 @@ use Rattle.paper.specs.Step.{holds, reply, nothingWaits, refused, Outcome, outc
 use Rattle.paper.specs.Reader.{packet, packetOf}
 use Rattle.paper.specs.Runs.{Call, replies}
 use Rattle.paper.specs.History.{isAccepted, sentAt, sentBy, countsAfter, numberedAll, spares, stillWaiting, sparedAt, stillWaitingAt}
-use Rattle.delivery.specs.Demands.{Polled, Numbers, isPoll, piecesQueued, none-queued, numbersAfter, takenAt, written, polledFrom, polled, pollOutputs, Numbered, polledOf}
+use Rattle.delivery.specs.Polls.{Polled, Numbers, isPoll, piecesQueued, none-queued, numbersAfter, takenAt, written, polledFrom, polled, pollOutputs, Numbered, polledOf}
 use Rattle.paper.proofs.Refusals.{reply-is, passed}
 use Rattle.paper.proofs.History.{queues-step}
 use Rattle.delivery.proofs.Whole.{polled-parse}
