@@ -9,7 +9,8 @@ use lib.ListN.{length, getD}
 use Rattle.wire.specs.Wire.{be16, bytes16, part, put}
 use Rattle.wire.proofs.Runs.{length-part, part-append, bytes16-part, put-append}
 use Rattle.paper.specs.Frames.{Channel, cdmuA, cdmuB, poll}
-use Rattle.paper.specs.Acts.{packetId, shown, shownFrom, answer}
+use Rattle.paper.specs.Packets.{packetId}
+use Rattle.paper.specs.Acts.{shown, shownFrom, answer}
 use Rattle.state.specs.Layout.{telemetryAt, firstAt, waitingAt, slotAt, stateBytes}
 use Rattle.state.specs.View.{view, talliesIn}
 use Rattle.state.specs.Range.{Fit}

@@ -11,7 +11,7 @@ ghost use Prim.Native.Nat.{_<_, _≤_};
 ghost use lib.ListN.{length, getD};
 ghost use Rattle.wire.specs.Wire.{put};
 ghost use Rattle.paper.specs.Frames as Frames;
-ghost use Rattle.paper.specs.Acts.{packetId};
+ghost use Rattle.paper.specs.Packets.{packetId};
 ghost use Rattle.paper.specs.Acts as Acts;
 ghost use Rattle.frames.specs.Meaning.{channel};
 ghost use Rattle.state.specs.Layout.{waitingAt, telemetryAt};

@@ -20,7 +20,11 @@ use Rattle.paper.specs.Controller.{start}
 use Rattle.paper.specs.Reader.{fresh, readerStart, sound}
 use Rattle.paper.specs.Runs.{Call}
 use Rattle.paper.specs.History.{sentBy}
-use Rattle.delivery.specs.Demands.{Polled, polled, piecesQueued, polledOf, Arrival, ownOf, arrived, NoOthers, Gaps, Comes, Given, of, handsOut, allAmong, complete, Delivered, ByArrivals, Fate, arrivalsFrom, arrivals, Quiet, ByFates, fatesOf, Independent}
+use Rattle.delivery.specs.Polls.{Polled, polled, piecesQueued, polledOf}
+use Rattle.delivery.specs.Chosen.{Arrival, ownOf, arrived, NoOthers, Gaps, Comes}
+use Rattle.delivery.specs.HandedOut.{Given, of, handsOut, allAmong, complete}
+use Rattle.delivery.specs.Fates.{Fate, arrivalsFrom, arrivals, Quiet, fatesOf}
+use Rattle.delivery.specs.Demands.{Delivered, ByArrivals, ByFates, Independent}
 use Rattle.paper.proofs.History.{length-cut}
 use Rattle.delivery.proofs.Whole.{Whole, whole-sound, whole-back}
 use Rattle.delivery.proofs.Arrivals.{run, piece, bodies, packet, In, Finishes, reads}

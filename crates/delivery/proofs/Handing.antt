@@ -18,7 +18,7 @@ use Rattle.paper.specs.Packets.{joined}
 use Rattle.paper.specs.Queue.{put}
 use Rattle.paper.specs.Reader.{Track, distance, placed, Arrival, repeated, taken, finished, gathers, moves, arrives, arrive, Packet, packet, notCarried, noPacket, wellFormed, packetOf, sound, Reader, readerStart, Heard, heard, received, understood, readerStep}
 use Rattle.paper.specs.Runs.{Call, readings}
-use Rattle.delivery.specs.Demands.{handedOut}
+use Rattle.delivery.specs.HandedOut.{handedOut}
 use Rattle.paper.proofs.All.{All}
 use Rattle.paper.proofs.Kept.{Full}
 use Rattle.paper.proofs.Table.{carried-rules}

@@ -16,7 +16,10 @@ use Rattle.paper.specs.Streams.{pieces}
 use Rattle.paper.specs.Packets.{cut}
 use Rattle.paper.specs.Queue.{Piece, piece, numbered, after, put}
 use Rattle.paper.specs.History.{numberedAll}
-use Rattle.delivery.specs.Demands.{Polled, Fate, lost, came, again, noise, Arrival, own, strange, repeats, arrivalsFrom, ownOf, arrived, allAmong, complete}
+use Rattle.delivery.specs.Polls.{Polled}
+use Rattle.delivery.specs.Chosen.{Arrival, own, strange, ownOf, arrived}
+use Rattle.delivery.specs.HandedOut.{allAmong, complete}
+use Rattle.delivery.specs.Fates.{Fate, lost, came, again, noise, repeats, arrivalsFrom}
 use Rattle.paper.proofs.History.{length-cut}
 use Rattle.delivery.proofs.Sending.{Wholes}
 use Rattle.delivery.proofs.Arrivals.{In}

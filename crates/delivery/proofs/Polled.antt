@@ -23,7 +23,7 @@ use Rattle.paper.specs.Step.{holds, reply, refused, Outcome, outcome, replied, 
 use Rattle.paper.specs.Reader.{packet, packetOf}
 use Rattle.paper.specs.Runs.{Call, replies}
 use Rattle.paper.specs.History.{isAccepted, sentAt, sentBy, countsAfter, numberedAll, Takes, nothing, theFirst, named, clears, takes, leaves, sent, takesAt}
-use Rattle.delivery.specs.Demands.{Polled, Numbers, isPoll, piecesQueued, none-queued, joinedAt, numbersAfter, takenAt, written, polledFrom, polled, pollOutputs, Numbered, polledOf}
+use Rattle.delivery.specs.Polls.{Polled, Numbers, isPoll, piecesQueued, none-queued, joinedAt, numbersAfter, takenAt, written, polledFrom, polled, pollOutputs, Numbered, polledOf}
 use Rattle.paper.proofs.Refusals.{Clear, reply-is, passed}
 use Rattle.paper.proofs.History.{queues-step}
 use Rattle.delivery.proofs.Whole.{polled-parse}

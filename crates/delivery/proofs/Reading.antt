@@ -15,7 +15,7 @@ use Rattle.paper.specs.Packets.{joined}
 use Rattle.paper.specs.Queue.{put}
 use Rattle.paper.specs.Reader.{Arrival, repeated, taken, finished, arrive, Packet, packet, notCarried, noPacket, wellFormed, packetOf, sound, Reader, Heard, heard, received, understood, readerStep}
 use Rattle.paper.specs.Runs.{Call, readings}
-use Rattle.delivery.specs.Demands.{handedOut, of}
+use Rattle.delivery.specs.HandedOut.{handedOut, of}
 use Rattle.delivery.proofs.Arrivals.{run}
 
 -- ---- what is kept of one stream

@@ -15,7 +15,11 @@ use Rattle.paper.specs.Controller.{start}
 use Rattle.paper.specs.Reader.{Reader, Heard, readerStart, readerStep}
 use Rattle.paper.specs.Runs.{Call, reads, readings}
 use Rattle.paper.specs.History.{sentBy}
-use Rattle.delivery.specs.Demands.{polled, Fate, Arrival, frame, arrivals, Quiet, arrived, Gaps, Comes, Given, handedOut, handsOut, of, arrivedWhole, InOrder}
+use Rattle.delivery.specs.Polls.{polled}
+use Rattle.delivery.specs.Chosen.{Arrival, frame, arrived, Gaps, Comes}
+use Rattle.delivery.specs.HandedOut.{Given, handedOut, handsOut, of, arrivedWhole}
+use Rattle.delivery.specs.Fates.{Fate, arrivals, Quiet}
+use Rattle.delivery.specs.Demands.{InOrder}
 use Rattle.delivery.proofs.Sending.{sent-whole}
 use Rattle.delivery.proofs.Polled.{polled-sub}
 use Rattle.delivery.proofs.Way.{prefix}

@@ -13,10 +13,10 @@ use borrow.Author.Tests.{eq-eqb}
 use Rattle.wire.specs.Wire.{be16}
 use Rattle.paper.specs.Frames.{Channel, cdmuA, cdmuB}
 use Rattle.paper.specs.Streams.{pieces, listed, carried}
-use Rattle.paper.specs.Packets.{joined, cut}
+use Rattle.paper.specs.Packets.{joined, cut, packetId}
 use Rattle.paper.specs.Queue.{Piece}
 use Rattle.paper.specs.Controller.{Both}
-use Rattle.paper.specs.Acts.{packetId, shown}
+use Rattle.paper.specs.Acts.{shown}
 use Rattle.paper.specs.Reader.{packet, wellFormed, packetOf, all99, sound}
 use Rattle.paper.proofs.Packets.{joined-chunks}
 use Rattle.paper.proofs.Table.{carried-small, carried-rules}
@@ -63,11 +63,11 @@ module _ (s : ℕ) (x : List ℕ) (w : Whole s x) where
   whole-sound =
       let l : 8 ≤ listed s = carried-rules s (w .0) .long in
       rw whole-joined
-      (and-true (keeps 0 0x88 (omega arith) (w .2))
-      (and-true (keeps 1 0x88 (omega arith) (w .3))
+      (and-true (and-true (keeps 0 0x88 (omega arith) (w .2)) (and-true (keeps 1 0x88 (omega arith) (w .3)) refl))
+      (and-true
       (and-true (keeps (listed s - 2) 0x99 (omega arith) (w .4))
-      (and-true (keeps (listed s - 1) 0x99 (omega arith) (w .5))
-      (ap all99 (drop-at x fill (listed s) (w .1)) ∙ all-99 (pieces s * 118 - length x))))))
+      (and-true (keeps (listed s - 2 + 1) 0x99 (omega arith) (ap (λ n. getD x n 0) (let z : listed s - 2 + 1 ≡ listed s - 1 = omega arith in z) ∙ w .5)) refl))
+      (ap all99 (drop-at x fill (listed s) (w .1)) ∙ all-99 (pieces s * 118 - length x))))
 
 -- any packet is cut into its stream's pieces of 118 bytes
 pub whole-pieces : (s : ℕ) (x : List ℕ) → length (cut (pieces s) x) ≡ pieces s

@@ -1,2 +1,7 @@
--- What is demanded of packets on their way from the controller to the reader (demand 3), on document 01's definitions (`paper`).
+-- What is demanded of packets on their way from the controller to the reader (demand 3), on document 01's definitions (`paper`): Demands is
+-- the claim, and the others are its parts, in the order of its words.
 pub mod Demands
+pub mod Polls
+pub mod Chosen
+pub mod HandedOut
+pub mod Fates

@@ -17,7 +17,11 @@ use Rattle.paper.specs.Reader.{readerStart}
 use Rattle.paper.specs.Runs.{replies, readings}
 use Rattle.paper.specs.History.{isAccepted}
 use Rattle.delivery.specs.Demands as delivery
-use Rattle.delivery.specs.Demands.{isPoll, polled, pollOutputs, Fate, Arrival, of}
+use Rattle.delivery.specs.HandedOut as handing
+use Rattle.delivery.specs.Polls.{isPoll, polled, pollOutputs}
+use Rattle.delivery.specs.Chosen.{Arrival}
+use Rattle.delivery.specs.HandedOut.{of}
+use Rattle.delivery.specs.Fates.{Fate}
 use Rattle.paper.proofs.Kept.{Kept, kept-start, kept-step, written, writes}
 use Rattle.delivery.proofs.Polled.{of-polls}
 use Rattle.delivery.proofs.Handing.{AtLength, handed-length}
@@ -95,9 +99,9 @@ reader-started : (lent : List ℕ) → readerBytes ≤ length lent → shelf.sta
 unfolding shelf.startOf
 reader-started lent h = rw (le-leb readerBytes (length lent) h)
 
-handed-as : (xs : List (List ℕ × List ℕ)) (hs : List (ℕ × List ℕ)) → AtLength (delivery.handedOut (calls xs) hs)
-    → handedOut xs (fronts xs hs) ≡ delivery.handedOut (calls xs) hs
-unfolding handedOut delivery.handedOut
+handed-as : (xs : List (List ℕ × List ℕ)) (hs : List (ℕ × List ℕ)) → AtLength (handing.handedOut (calls xs) hs)
+    → handedOut xs (fronts xs hs) ≡ handing.handedOut (calls xs) hs
+unfolding handedOut handing.handedOut
 handed-as [] hs l = refl
 handed-as (x ∷ xs) [] l = refl
 handed-as (x ∷ xs) (h ∷ hs) l = by (eqb (h .0) 1) l (λ m. handed-as xs hs m)
@@ -105,16 +109,16 @@ handed-as (x ∷ xs) (h ∷ hs) l = by (eqb (h .0) 1) l (λ m. handed-as xs hs m
     t : ℕ
     t = be16 (x .0) 6 % 16
 
-    by : (b : Bool) → AtLength (cond b ((t, h .1) ∷ delivery.handedOut (calls xs) hs) (delivery.handedOut (calls xs) hs))
-        → (AtLength (delivery.handedOut (calls xs) hs) → handedOut xs (fronts xs hs) ≡ delivery.handedOut (calls xs) hs)
+    by : (b : Bool) → AtLength (cond b ((t, h .1) ∷ handing.handedOut (calls xs) hs) (handing.handedOut (calls xs) hs))
+        → (AtLength (handing.handedOut (calls xs) hs) → handedOut xs (fronts xs hs) ≡ handing.handedOut (calls xs) hs)
         → cond b ((t, take (listed t) (put (x .1) 0 (h .1))) ∷ handedOut xs (fronts xs hs)) (handedOut xs (fronts xs hs))
-        ≡ cond b ((t, h .1) ∷ delivery.handedOut (calls xs) hs) (delivery.handedOut (calls xs) hs)
+        ≡ cond b ((t, h .1) ∷ handing.handedOut (calls xs) hs) (handing.handedOut (calls xs) hs)
     by true m ih = λ i. (t, front (x .1) (h .1) (listed t) (m .0) i) ∷ ih (m .1) i
     by false m ih = ih m
 
 -- what is handed out on bytes is what document 01's reader hands out
 handed-is : (ys : List Arrival) (lent : List ℕ) (given : List (List ℕ × List ℕ)) → Called ys lent given
-    → handsOut lent given ≡ delivery.handsOut (calls given)
+    → handsOut lent given ≡ handing.handsOut (calls given)
 handed-is ys lent given k =
     ap (λ (b : List ℕ). handedOut given (readingsOf b given)) (reader-started lent (k .long))
     ∙ ap (handedOut given) (started-readings lent (k .long) given (k .bytes))

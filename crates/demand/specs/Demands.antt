@@ -14,7 +14,10 @@ use Rattle.wire.specs.Wire.{be16}
 use Rattle.paper.specs.Frames.{frameOf}
 use Rattle.paper.specs.Streams.{listed}
 use Rattle.paper.specs.History.{isAccepted}
-use Rattle.delivery.specs.Demands.{isPoll, polled, Arrival, ownOf, arrived, NoOthers, Gaps, Comes, Given, of, arrivedWhole, Fate, arrivals, Quiet, fatesOf}
+use Rattle.delivery.specs.Polls.{isPoll, polled}
+use Rattle.delivery.specs.Chosen.{Arrival, ownOf, arrived, NoOthers, Gaps, Comes}
+use Rattle.delivery.specs.HandedOut.{Given, of, arrivedWhole}
+use Rattle.delivery.specs.Fates.{Fate, arrivals, Quiet, fatesOf}
 use Rattle.state.specs.Layout.{stateBytes}
 use Rattle.state.specs.Calls.{Framed, calls}
 use Rattle.machine.specs.Called.{startOf}

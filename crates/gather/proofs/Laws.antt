@@ -55,7 +55,7 @@ marked s at n =
     eqb (getD s at 0) 0x88
     && (eqb (getD s (at + 1) 0) 0x88 && (eqb (getD s (at + n - 2) 0) 0x99 && eqb (getD s (at + n - 1) 0) 0x99))
 
-chain : (a b c d e : Bool) → (a && (b && (c && (d && e)))) ≡ ((a && (b && (c && d))) && e)
+chain : (a b c d e : Bool) → ((a && (b && true)) && ((c && (d && true)) && e)) ≡ ((a && (b && (c && d))) && e)
 chain true true true true e = refl
 chain true true true false e = refl
 chain true true false d e = refl
@@ -90,8 +90,8 @@ module _ (s : List ℕ) (t : ℕ) (c : carried t ≡ true) where
       let b : getD (part s g n) 1 0 ≡ getD s (g + 1) 0 = byte 1 (omega (arith, some)) in
       let d : getD (part s g n) (l - 2) 0 ≡ getD s (g + l - 2) 0 =
       byte (l - 2) (omega (arith, r .long)) ∙ ap (λ (k : ℕ). getD s k 0) (let z : g + (l - 2) ≡ g + l - 2 = omega (arith, r .long) in z) in
-      let e : getD (part s g n) (l - 1) 0 ≡ getD s (g + l - 1) 0 =
-      byte (l - 1) (omega (arith, r .long)) ∙ ap (λ (k : ℕ). getD s k 0) (let z : g + (l - 1) ≡ g + l - 1 = omega (arith, r .long) in z) in
+      let e : getD (part s g n) (l - 2 + 1) 0 ≡ getD s (g + l - 1) 0 =
+      byte (l - 2 + 1) (omega (arith, r .long)) ∙ ap (λ (k : ℕ). getD s k 0) (let z : g + (l - 2 + 1) ≡ g + l - 1 = omega (arith, r .long) in z) in
       let rest : drop l (part s g n) ≡ part s (g + l) (g + n - (g + l)) =
       ap (λ (k : ℕ). drop l (take k (drop g s))) (let z : n ≡ l + (g + n - (g + l)) = omega arith in z)
       ∙ behind l (g + n - (g + l)) (drop g s)

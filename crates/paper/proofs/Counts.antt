@@ -8,9 +8,10 @@ use borrow.Author.Tests.{eqb-false, ne-eqb}
 use native.Mathlib.Omega.{arith}
 use Rattle.wire.specs.Wire.{bytes16}
 use Rattle.paper.specs.Frames.{Channel, cdmuA, cdmuB, poll, onChannel, frameOf}
+use Rattle.paper.specs.Packets.{packetId}
 use Rattle.paper.specs.Queue.{Piece}
 use Rattle.paper.specs.Controller.{at, Controller, start}
-use Rattle.paper.specs.Acts.{packetId, noted, shown, shownFrom, answer}
+use Rattle.paper.specs.Acts.{noted, shown, shownFrom, answer}
 use Rattle.paper.specs.Step.{holds, reply, refused, Outcome, replied, step}
 use Rattle.paper.specs.Runs.{runs}
 use Rattle.paper.specs.WorkedCounts.{pollFrame, Begins, Counts}

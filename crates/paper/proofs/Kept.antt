@@ -18,7 +18,7 @@ use Rattle.paper.specs.Mode.{Mode, emc, upper, mid, lower, proximity, su
 use Rattle.paper.specs.Impact.{Impact, Stamp, Collection, idle, running, collects, declares}
 use Rattle.paper.specs.Commands.{Request, clear, housekeeping, setMode, Decoded, request, refusal, names, decoded}
 use Rattle.paper.specs.Streams.{acc-i, hk, pieces}
-use Rattle.paper.specs.Packets.{pieceSize, filled, chunks, cut}
+use Rattle.paper.specs.Packets.{fill, pieceSize, filled, chunks, cut}
 use Rattle.paper.specs.Queue.{Piece, wrap, numbered}
 use Rattle.paper.specs.Controller.{Open, Controller, start, queued, withImpact, stampNow}
 use Rattle.paper.specs.Acts.{emptied, enter, heard, moved, counted, inProximity, last, completes, taken, watching, ended, impactPacket, completed, ticks, joinedBy, closes, closed, extended, sampled, noted, cleared, commanded, obeyed, shown, polled, performed, polledFrom, shownFrom, accepted, answer}
@@ -44,7 +44,7 @@ pub full-cut : (k : ℕ) (x : List ℕ) → Full (cut k x)
 unfolding cut
 full-cut k x =
     full-chunks k (filled k x)
-    (omega (arith, length-append x (replicate (k * 118 - length x) 0x99), length-replicate {A = ℕ} (k * 118 - length x) 0x99))
+    (omega (arith, length-append x (replicate (k * 118 - length x) fill), length-replicate {A = ℕ} (k * 118 - length x) fill))
 
 whole-numbered : (s n : ℕ) (xs : List (List ℕ)) → Full xs → Whole (numbered wrap s n xs)
 unfolding numbered

@@ -6,7 +6,7 @@ use Prim.Native.Nat.{ℕ, _+_, _*_, _/_, _%_, _≤_, _<_}
 use native.Mathlib.Omega.{arith}
 use lib.Dec.{eqb}
 use Rattle.paper.specs.Mode.{number}
-use Rattle.paper.specs.Status.{bitOf, bit, Flags, Shown, set, empty, wordA, wordB}
+use Rattle.paper.specs.Status.{bitOf, bit, Flags, Shown, emptyWith, set, wordA, wordB}
 
 pub bit-le : (b : Bool) → bit b ≤ 1
 bit-le true = omega arith
@@ -19,7 +19,7 @@ bit-back false = refl
 -- a word of eight bits above a byte, whatever they are
 abbrev word : ℕ → Bool → Bool → Bool → Bool → Bool → Bool → Bool → Bool → ℕ
 word low b8 b9 b10 b11 b12 b13 b14 b15 =
-    set 15 b15 (set 14 b14 (set 13 b13 (set 12 b12 (set 11 b11 (set 10 b10 (set 9 b9 (set 8 b8 (empty low))))))))
+    set 15 b15 (set 14 b14 (set 13 b13 (set 12 b12 (set 11 b11 (set 10 b10 (set 9 b9 (set 8 b8 (emptyWith low))))))))
 
 -- the labels of such a word, and its low byte: "The low byte passes through."
 pub record Reads (w low : ℕ) (b8 b9 b10 b11 b12 b13 b14 b15 : Bool) : Type 0 where

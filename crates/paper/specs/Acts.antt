@@ -12,7 +12,7 @@ use Rattle.paper.specs.Mode.{Mode, proximity, surface, number, modeOf, s
 use Rattle.paper.specs.Impact.{Impact, Stamp, above, noComparison, compared, declares, noReading, rung, Collection, idle, running, collects}
 use Rattle.paper.specs.Commands.{Request, clear, housekeeping, setMode, Decoded, request, refusal, names, decoded}
 use Rattle.paper.specs.Streams.{acc-i, hk, pieces, perPacket}
-use Rattle.paper.specs.Packets.{pack, dataOf, datastream}
+use Rattle.paper.specs.Packets.{pack, dataOf, datastream, packetId, packetLength}
 use Rattle.paper.specs.Queue.{Piece, put, without, free}
 use Rattle.paper.specs.Controller.{Both, at, raised, raisedAt, Tallies, withBroadcasts, withPackets, withTelemetry, withCommands, withLast, Open, nothingOpen, Streams, withOpened, withQueue, Controller, withClock, withStanding, withImpact, withTallies, withHoused, withStreams, stampNow, queued}
 use Rattle.paper.specs.Housekeeping.{housekeepingPacket}
@@ -183,16 +183,11 @@ obeyed c (setMode value) = commanded c value
 
 -- ---- poll
 
--- "0F94 on A or 0FB4 on B"
-abbrev pub packetId : Channel → ℕ
-packetId cdmuA = 0x0F94
-packetId cdmuB = 0x0FB4
-
 -- "Poll output: 0F94 on A or 0FB4 on B; C000 plus that channel's telemetry count modulo 16384 ..; 0077; count times 16 plus
 -- stream; 118 bytes."
 unfoldable pub shown : Channel → Both → Piece (List ℕ) → List ℕ
 shown cc telemetry p =
-    bytes16 (packetId cc) ++ bytes16 (0xC000 + at cc telemetry % 16384) ++ bytes16 0x0077
+    bytes16 (packetId cc) ++ bytes16 (0xC000 + at cc telemetry % 16384) ++ bytes16 packetLength
     ++ bytes16 (p .count * 16 + p .stream) ++ p .body
 
 -- "the count rising afterwards"; the first piece is gone

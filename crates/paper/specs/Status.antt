@@ -1,4 +1,4 @@
--- Document 01, "Status words": "Each word is built from an empty one, a named bit at a time."
+-- Document 01, "Status words": "Each word is built from an empty one, a named bit at a time. .. The low byte passes through."
 -- Assumes nothing.
 use mathlib.Core.Bool.{Bool, true, false}
 use Prim.Native.Nat.{ℕ, _+_, _*_, _/_, _%_, _^_}
@@ -43,13 +43,13 @@ abbrev pub bit : Bool → ℕ
 bit true = 1
 bit false = 0
 
--- a word with one bit more
+-- "an empty one", but that "The low byte passes through."
+abbrev pub emptyWith : ℕ → ℕ
+emptyWith low = low
+
+-- "a named bit at a time": a word with one bit more
 abbrev pub set : ℕ → Bool → ℕ → ℕ
 set k on word = bit on * 2 ^ k + word
-
--- The empty word, with "the low byte passes through".
-abbrev pub empty : ℕ → ℕ
-empty low = low
 
 -- column A of the table
 unfoldable pub wordA : ℕ → Flags → Shown → ℕ
@@ -59,7 +59,7 @@ wordA low f s =
     (set 13 (f .allOK)
     (set 12 (bitOf (s .commands) 0)
     (set 11 (bitOf (number (s .mode)) 2)
-    (set 10 (bitOf (number (s .mode)) 1) (set 9 (bitOf (number (s .mode)) 0) (set 8 (f .volts12OK) (empty low))))))))
+    (set 10 (bitOf (number (s .mode)) 1) (set 9 (bitOf (number (s .mode)) 0) (set 8 (f .volts12OK) (emptyWith low))))))))
 
 -- column B of the table
 unfoldable pub wordB : ℕ → Flags → Shown → ℕ
@@ -68,4 +68,4 @@ wordB low f s =
     (set 14 (f .sounder)
     (set 13 (f .allOK)
     (set 12 (bitOf (s .commands) 0)
-    (set 11 (f .ddbLoss) (set 10 (f .bcpLoss) (set 9 (f .redundant12V) (set 8 (f .nominal12V) (empty low))))))))
+    (set 11 (f .ddbLoss) (set 10 (f .bcpLoss) (set 9 (f .redundant12V) (set 8 (f .nominal12V) (emptyWith low))))))))

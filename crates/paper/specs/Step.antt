@@ -12,6 +12,7 @@ use Rattle.paper.specs.Clock.{seconds}
 use Rattle.paper.specs.Commands.{Request, clear, housekeeping, setMode, Decoded, request, refusal, decoded, refusedWith}
 use Rattle.paper.specs.Streams.{acc-i, hk, Form, ofBytes, of12Bits, pieces, width, form, takenIn}
 use Rattle.paper.specs.Streams as table
+use Rattle.paper.specs.Packets.{packetSize}
 use Rattle.paper.specs.Queue.{free}
 use Rattle.paper.specs.Controller.{raisedAt, raised8, Tallies, withBroadcasts, withPackets, withError, Controller, withTallies}
 use Rattle.paper.specs.Acts.{completes, closes, accepted, answer}
@@ -94,7 +95,7 @@ order = 10 ∷ 8 ∷ 1 ∷ 2 ∷ 3 ∷ 4 ∷ 5 ∷ 6 ∷ 7 ∷ 9 ∷ []
 
 -- the grounds in that order, those of any frame among them; "8: output shorter than 126 bytes"
 abbrev pub tests : Lent Controller → Frame → ℕ → List (ℕ × Bool)
-tests l f room = map (λ n. (n, applies ((10, isUnfit l) ∷ (8, ltb room 126) ∷ groundsIn l f) n)) order
+tests l f room = map (λ n. (n, applies ((10, isUnfit l) ∷ (8, ltb room packetSize) ∷ groundsIn l f) n)) order
 
 unfoldable pub reply : Lent Controller → Frame → ℕ → ℕ
 reply l f room = first (tests l f room)

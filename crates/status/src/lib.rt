@@ -3,7 +3,7 @@
 ghost use mathlib.Core.Path.{_≡_};
 ghost use Prim.Native.Nat.{_<_, _≤_};
 ghost use Rattle.paper.specs.Mode.{Mode, number};
-ghost use Rattle.paper.specs.Status.{bit, bitOf, flagsOf, wordA, wordB};
+ghost use Rattle.paper.specs.Status.{bit, bitOf, emptyWith, flagsOf, wordA, wordB};
 ghost use Rattle.status.specs.Word.{Set, shown};
 
 // Document 01's flags of a status frame, from bit 0.
@@ -62,8 +62,8 @@ pub struct WordA {
 
 impl WordA {
     // No named bit is set; the low byte is passed through.
-    pub fn empty(low: u8) -> Self
-        ensures { λ r. ⌜ (r .bits ≡ low) × (r .bits < 256) ⌝ }
+    pub fn empty_with(low: u8) -> Self
+        ensures { λ r. ⌜ (r .bits ≡ emptyWith low) × (r .bits < 256) ⌝ }
     {
         WordA { bits: low as u16 }
     }
@@ -148,7 +148,7 @@ pub fn word_a(low: u8, flags: u8, impact: bool, mode: u8, commands: u16) -> u16
 {
     let given = flags as u16;
     let number = mode as u16;
-    WordA::empty(low)
+    WordA::empty_with(low)
         .volts12_ok(bit_of(given, VOLTS12_OK))
         .mode_bit_0(bit_of(number, 0))
         .mode_bit_1(bit_of(number, 1))
@@ -167,8 +167,8 @@ pub struct WordB {
 
 impl WordB {
     // No named bit is set; the low byte is passed through.
-    pub fn empty(low: u8) -> Self
-        ensures { λ r. ⌜ (r .bits ≡ low) × (r .bits < 256) ⌝ }
+    pub fn empty_with(low: u8) -> Self
+        ensures { λ r. ⌜ (r .bits ≡ emptyWith low) × (r .bits < 256) ⌝ }
     {
         WordB { bits: low as u16 }
     }
@@ -251,7 +251,7 @@ pub fn word_b(low: u8, flags: u8, impact: bool, commands: u16) -> u16
     ensures { λ r. ⌜ ((mode : Mode) → r ≡ wordB low (flagsOf flags) (shown impact mode commands)) ⌝ }
 {
     let given = flags as u16;
-    WordB::empty(low)
+    WordB::empty_with(low)
         .nominal12v(bit_of(given, NOMINAL12V))
         .redundant12v(bit_of(given, REDUNDANT12V))
         .bcp_loss(bit_of(given, BCP_LOSS))

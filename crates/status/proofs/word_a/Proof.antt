@@ -5,8 +5,8 @@ use borrow.Author.Needs.{needs}
 use Rattle.status.proofs.word_a.Statement.{statement}
 use Rattle.status.proofs.word_a.Tie as tie
 
-empty-requires : tie.Need-empty-requires
-empty-requires c κs = search needs
+empty-with-requires : tie.Need-empty-with-requires
+empty-with-requires c κs = search needs
 
 bit-of-requires : tie.Need-bit-of-requires
 bit-of-requires c κs = search needs
@@ -81,14 +81,14 @@ returns c =
       at-9 .before .bit-of2 .ensures,
       at-8 .volts12-ok .ensures .word,
       at-8 .before .bit-of .ensures,
-      at-8 .before .before .empty .ensures .0,
+      at-8 .before .before .empty-with .ensures .0,
     )
 
 pub word-a-spec : {M : Type 1} → statement M
 word-a-spec =
     tie.close
     (tie.spec
-    empty-requires
+    empty-with-requires
     bit-of-requires
     volts12-ok-requires
     bit-of-requires-2
