@@ -512,6 +512,12 @@ static void hold_reader_replies(void)
           ssp_reader_packet(NULL, 0, NULL, 0, NULL, 0));
     hold("reader's start on nothing", SSP_READER_UNFIT_STATE,
          ssp_reader_start(NULL, 0));
+    memset(reader, 0, ROOM);
+    hold("a reader that was never started", SSP_READER_UNFIT_STATE,
+         ssp_reader_packet(reader, ROOM, NULL, 0, out, sizeof out));
+    ssp_start(reader, ROOM);
+    hold("a controller as a reader", SSP_READER_UNFIT_STATE,
+         ssp_reader_packet(reader, ROOM, NULL, 0, out, sizeof out));
 }
 
 /* ------------------------------------------------------ the header's text */
