@@ -22,7 +22,7 @@ use Rattle.paper.specs.Packets.{fill, pieceSize, filled, chunks, cut}
 use Rattle.paper.specs.Queue.{Piece, wrap, numbered}
 use Rattle.paper.specs.Controller.{Open, Controller, start, queued, withImpact, stampNow}
 use Rattle.paper.specs.Acts.{emptied, enter, heard, moved, counted, inProximity, last, completes, taken, watching, ended, impactPacket, completed, ticks, joinedBy, closes, closed, extended, sampled, noted, cleared, commanded, obeyed, shown, polled, performed, polledFrom, shownFrom, accepted, answer}
-use Rattle.paper.specs.Step.{holds, first, reply, lateHeard, erred, refused, outcome, replied, step}
+use Rattle.paper.specs.Step.{holds, reply, lateHeard, erred, refused, outcome, replied, step}
 use Rattle.paper.specs.Runs.{Call, runs}
 use Rattle.paper.proofs.All.{All, all-append, all-without}
 use Rattle.paper.proofs.Refusals.{Clear, reply-is, passed, refused-any}

@@ -9,12 +9,16 @@ use borrow.Author.Tests.{eqb-true, eqb-false, eq-eqb, ne-eqb}
 use Rattle.paper.specs.Frames.{Channel, Frame, broadcast, command, tick, sample, poll, status, analogue, faulty, frameOf}
 use Rattle.paper.specs.Controller.{Controller}
 use Rattle.paper.specs.Acts.{accepted, answer}
-use Rattle.paper.specs.Step.{grounds, Lent, holds, applies, first, order, reply, tests, isError, lateHeard, erred, countOf, Change, unchanged, lateOn, errorOn, change, changed, isListed, changesListed, refused, Outcome, outcome, replied, step}
+use Rattle.paper.specs.Step.{grounds, unfit, holds, applies, first, order, reply, tests, isError, lateHeard, erred, countOf, Change, unchanged, lateOn, errorOn, change, changed, isListed, changesListed, refused, Outcome, outcome, replied, step}
 
 -- "Tested in the order 10, 8, 1, 2, 3, 4, 5, 6, 7, 9"
-pub in-order : (l : Lent Controller) (f : Frame) (room : ℕ)
-    → map (λ t. t .0) (tests l f room) ≡ 10 ∷ 8 ∷ 1 ∷ 2 ∷ 3 ∷ 4 ∷ 5 ∷ 6 ∷ 7 ∷ 9 ∷ []
-in-order l f room = refl
+pub in-order : order ≡ 10 ∷ 8 ∷ 1 ∷ 2 ∷ 3 ∷ 4 ∷ 5 ∷ 6 ∷ 7 ∷ 9 ∷ []
+in-order = refl
+
+-- "10: state buffer shorter .., or a number kept in it outside its range", whatever the frame and the output
+pub unfit-gets-10 : (f : Frame) (room : ℕ) → reply unfit f room ≡ 10
+unfolding reply
+unfit-gets-10 f room = refl
 
 -- the numbers of the first are some of the second, in that order
 abbrev inTurn : List ℕ → List ℕ → Bool
@@ -22,17 +26,17 @@ inTurn [] ms = true
 inTurn (n ∷ ns) [] = false
 inTurn (n ∷ ns) (m ∷ ms) = cond (eqb m n) (inTurn ns ms) (inTurn (n ∷ ns) ms)
 
--- No kind of frame lists a number twice, nor 10 or 8, which are any frame's: the second would never be asked. And every number that
--- one lists stands in the order.
-pub each-once : (c : Controller) (f : Frame) → inTurn (10 ∷ 8 ∷ map (λ g. g .0) (grounds c f)) order ≡ true
-each-once c (broadcast cc time altitude spin phase) = refl
-each-once c (command cc id sequence parameters) = refl
-each-once c (tick r) = refl
-each-once c (sample s x) = refl
-each-once c (poll cc) = refl
-each-once c (status cc low flags) = refl
-each-once c (analogue bytes) = refl
-each-once c faulty = refl
+-- No kind of frame lists a number twice, nor one that is any frame's: the second would never be asked. And every number that one lists
+-- stands in the order.
+pub each-once : (c : Controller) (f : Frame) (room : ℕ) → inTurn (map (λ g. g .0) (tests (holds c) f room)) order ≡ true
+each-once c (broadcast cc time altitude spin phase) room = refl
+each-once c (command cc id sequence parameters) room = refl
+each-once c (tick r) room = refl
+each-once c (sample s x) room = refl
+each-once c (poll cc) room = refl
+each-once c (status cc low flags) room = refl
+each-once c (analogue bytes) room = refl
+each-once c faulty room = refl
 
 -- ---- "the first that applies is given"
 
@@ -57,20 +61,21 @@ among n [] = false
 among n (m ∷ ms) = cond (eqb m n) true (among n ms)
 
 -- where the first that applies is 0, and 0 is none of them, none applies
-none-first : (t : ℕ → Bool) (ms : List ℕ) → among 0 ms ≡ false → first (map (λ n. (n, t n)) ms) ≡ 0
-    → (n : ℕ) → among n ms ≡ true → t n ≡ false
-none-first t [] z e n i = absurd (false≢true i)
-none-first t (m ∷ ms) z e n i = at (t m) refl e (eqb m 0) refl z (λ y r j. none-first t ms y r n j)
+none-first : (gs : List (ℕ × Bool)) (ms : List ℕ) → among 0 ms ≡ false → first ms gs ≡ 0 → (n : ℕ) → among n ms ≡ true
+    → applies gs n ≡ false
+none-first gs [] z e n i = absurd (false≢true i)
+none-first gs (m ∷ ms) z e n i = at (applies gs m) refl e (eqb m 0) refl z (λ y r j. none-first gs ms y r n j)
   where
     Rest : Type 0
-    Rest = among 0 ms ≡ false → first (map (λ n. (n, t n)) ms) ≡ 0 → among n ms ≡ true → t n ≡ false
+    Rest = among 0 ms ≡ false → first ms gs ≡ 0 → among n ms ≡ true → applies gs n ≡ false
 
-    here : t m ≡ false → (b : Bool) → eqb m n ≡ b → cond b true (among n ms) ≡ true → (among n ms ≡ true → t n ≡ false) → t n ≡ false
-    here h true k j rest = ap t (sym (eqb-true m n k)) ∙ h
+    here : applies gs m ≡ false → (b : Bool) → eqb m n ≡ b → cond b true (among n ms) ≡ true
+        → (among n ms ≡ true → applies gs n ≡ false) → applies gs n ≡ false
+    here h true k j rest = ap (applies gs) (sym (eqb-true m n k)) ∙ h
     here h false k j rest = rest j
 
-    at : (b : Bool) → t m ≡ b → cond b m (first (map (λ n. (n, t n)) ms)) ≡ 0 → (y : Bool) → eqb m 0 ≡ y
-        → cond y true (among 0 ms) ≡ false → Rest → t n ≡ false
+    at : (b : Bool) → applies gs m ≡ b → cond b m (first ms gs) ≡ 0 → (y : Bool) → eqb m 0 ≡ y
+        → cond y true (among 0 ms) ≡ false → Rest → applies gs n ≡ false
     at b h r true k y rest = absurd (false≢true (sym y))
     at true h r false k y rest = absurd (eqb-false m 0 k r)
     at false h r false k y rest = here h (eqb m n) refl i (rest y r)
@@ -78,7 +83,7 @@ none-first t (m ∷ ms) z e n i = at (t m) refl e (eqb m 0) refl z (λ y r j. no
 pub passed : (c : Controller) (f : Frame) (room : ℕ) → reply (holds c) f room ≡ 0 → Passed c f room
 unfolding reply
 passed c f room e =
-    let no = none-first (applies ((10, false) ∷ (8, ltb room 126) ∷ grounds c f)) order refl e in
+    let no = none-first (tests (holds c) f room) order refl e in
     record {
       output = no 8 refl;
       shape = no 1 refl;

@@ -2,7 +2,7 @@
 -- changes, and one call of the controller.
 -- Assumes nothing.
 use mathlib.Core.Bool.{Bool, true, false, cond, not, _&&_, _||_}
-use mathlib.Core.List.{List, [], _∷_, map}
+use mathlib.Core.List.{List, [], _∷_}
 use Prim.Native.Nat.{ℕ}
 use lib.Dec.{eqb, leb, ltb}
 use lib.ListN.{length}
@@ -77,7 +77,15 @@ abbrev pub groundsIn : Lent Controller → Frame → List (ℕ × Bool)
 groundsIn unfit f = []
 groundsIn (holds c) f = grounds c f
 
+-- all grounds of a call: those of any frame, "8: output shorter than 126 bytes" among them, and its own
+abbrev pub tests : Lent Controller → Frame → ℕ → List (ℕ × Bool)
+tests l f room = (10, isUnfit l) ∷ (8, ltb room packetSize) ∷ groundsIn l f
+
 -- ---- the order
+
+-- "Tested in the order 10, 8, 1, 2, 3, 4, 5, 6, 7, 9"
+abbrev pub order : List ℕ
+order = 10 ∷ 8 ∷ 1 ∷ 2 ∷ 3 ∷ 4 ∷ 5 ∷ 6 ∷ 7 ∷ 9 ∷ []
 
 -- whether the ground with this number applies; one that is not listed does not
 abbrev pub applies : List (ℕ × Bool) → ℕ → Bool
@@ -85,20 +93,12 @@ applies [] n = false
 applies (g ∷ gs) n = cond (eqb (g .0) n) (g .1) (applies gs n)
 
 -- "the first that applies is given", 0 where none does
-abbrev pub first : List (ℕ × Bool) → ℕ
-first [] = 0
-first (t ∷ ts) = cond (t .1) (t .0) (first ts)
-
--- "Tested in the order 10, 8, 1, 2, 3, 4, 5, 6, 7, 9"
-abbrev pub order : List ℕ
-order = 10 ∷ 8 ∷ 1 ∷ 2 ∷ 3 ∷ 4 ∷ 5 ∷ 6 ∷ 7 ∷ 9 ∷ []
-
--- the grounds in that order, those of any frame among them; "8: output shorter than 126 bytes"
-abbrev pub tests : Lent Controller → Frame → ℕ → List (ℕ × Bool)
-tests l f room = map (λ n. (n, applies ((10, isUnfit l) ∷ (8, ltb room packetSize) ∷ groundsIn l f) n)) order
+abbrev pub first : List ℕ → List (ℕ × Bool) → ℕ
+first [] gs = 0
+first (n ∷ ns) gs = cond (applies gs n) n (first ns gs)
 
 unfoldable pub reply : Lent Controller → Frame → ℕ → ℕ
-reply l f room = first (tests l f room)
+reply l f room = first order (tests l f room)
 
 -- ---- what a refusal changes
 
