@@ -6,7 +6,7 @@ use Prim.Native.Nat.{ℕ, _+_, _*_, _/_, _%_, _≤_, _<_}
 use native.Mathlib.Nat.{div-add-mod'}
 use native.Mathlib.Omega.{arith}
 use lib.ListN.{length, getD}
-use Rattle.wire.specs.Wire.{be16, bytes16, part, put}
+use Rattle.wire.specs.Wire.{be16, bytes16, part, put, Bytes}
 use Rattle.wire.proofs.Runs.{length-part, part-append, bytes16-part, put-append}
 use Rattle.paper.specs.Frames.{Channel, cdmuA, cdmuB, poll}
 use Rattle.paper.specs.Packets.{packetId}
@@ -28,7 +28,7 @@ slot-bytes s at h b =
 abbrev pub front : List ℕ → Channel → List ℕ
 front s cc = bytes16 (packetId cc) ++ bytes16 (0xC000 + be16 s (telemetryAt cc) % 16384) ++ bytes16 0x0077
 
-module _ (s : List ℕ) (f : Fit s) (b : (i : ℕ) → getD s i 0 < 256) (w : 0 < getD s waitingAt 0) where
+module _ (s : List ℕ) (f : Fit s) (b : Bytes s) (w : 0 < getD s waitingAt 0) where
   first-slot : bytes16 (be16 s (slotAt (getD s firstAt 0)) / 16 * 16 + be16 s (slotAt (getD s firstAt 0)) % 16)
       ++ part s (slotAt (getD s firstAt 0) + 2) 118
       ≡ part s (slotAt (getD s firstAt 0)) 120

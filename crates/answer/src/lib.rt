@@ -17,7 +17,8 @@ ghost use Rattle.frames.specs.Meaning.{channel};
 ghost use Rattle.state.specs.Layout.{waitingAt, telemetryAt};
 ghost use Rattle.state.specs.View.{view};
 ghost use Rattle.state.specs.Range.{Fit};
-ghost use Rattle.state.specs.Told.{res, answered};
+ghost use Rattle.lent.specs.Told.{res};
+ghost use Rattle.state.specs.Told.{answered};
 ghost use Rattle.machine.specs.Polled.{polledOn};
 
 // The packet ID of a channel.

@@ -15,7 +15,8 @@ ghost use Rattle.paper.specs.Frames.{broadcast, byte};
 ghost use Rattle.frames.specs.Meaning.{channel};
 ghost use Rattle.state.specs.Layout.{stateBytes, broadcastsAt};
 ghost use Rattle.state.specs.Range.{Fit};
-ghost use Rattle.state.specs.Told.{told, handled};
+ghost use Rattle.lent.specs.Told.{told};
+ghost use Rattle.state.specs.Told.{handled};
 ghost use Rattle.machine.specs.Entered.{raisedOn};
 ghost use Rattle.machine.specs.Heard.{heardOn, movedOn};
 

@@ -11,7 +11,7 @@ ghost use Rattle.frames.specs.Meaning.{meant, Sized};
 ghost use Rattle.state.specs.Layout.{stateBytes, housedAt};
 ghost use Rattle.state.specs.View.{view};
 ghost use Rattle.state.specs.Range.{Fit};
-ghost use Rattle.state.specs.Told.{told, res};
+ghost use Rattle.lent.specs.Told.{told, res};
 ghost use Rattle.machine.specs.Called.{repliedOn, stepOf, startOf};
 
 // Bytes for a fresh controller: 0, or 10 where they are too few.

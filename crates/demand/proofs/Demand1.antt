@@ -16,9 +16,9 @@ use Rattle.paper.proofs.Refusals.{unlisted}
 use Rattle.state.specs.Layout.{stateBytes}
 use Rattle.state.specs.View.{view}
 use Rattle.state.specs.Range.{Fit, fit}
-use Rattle.state.specs.Told.{Told, told, Res, res}
+use Rattle.lent.specs.Told.{Told, told, Res, res}
 use Rattle.state.specs.Fresh.{startedOn}
-use Rattle.state.specs.Calls.{Framed}
+use Rattle.lent.specs.Calls.{Framed}
 use Rattle.state.proofs.Ranges.{fit-true}
 use Rattle.wire.specs.Wire.{put}
 use Rattle.machine.specs.Called.{actedOn, changedOn, refusedOn, repliedOn, stepOf, startOf}

@@ -11,14 +11,14 @@ use Rattle.paper.specs.Reader.{readerStart, readerStep}
 use Rattle.paper.specs.Runs.{runs, reads}
 use Rattle.paper.specs.History.{history, sentBy, Counted}
 use Rattle.state.specs.View.{view}
-use Rattle.state.specs.Calls.{calls}
+use Rattle.lent.specs.Calls.{calls}
 use Rattle.machine.specs.Called.{stepOf}
 use Rattle.machine.specs.Runs.{Agrees, runOf}
 use Rattle.machine.proofs.Steps.{started-steps, started-counts}
 use Rattle.shelf.specs.Received.{readOf}
 use Rattle.shelf.specs.Runs.{Agrees as ReaderAgrees, readsOf}
 use Rattle.shelf.proofs.Runs.{started-steps as reader-steps}
-use Rattle.state.specs.Told.{Told}
+use Rattle.lent.specs.Told.{Told}
 use Rattle.demand.specs.Following.{Demand2}
 use Rattle.demand.proofs.Demand1.{begun, reader-begun}
 

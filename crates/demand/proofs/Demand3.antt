@@ -34,7 +34,7 @@ use Rattle.machine.specs.Called.{stepOf, startOf}
 use Rattle.machine.proofs.Fresh.{start-view, start-fit}
 use Rattle.machine.specs.Runs.{Agrees, repliesOf}
 use Rattle.machine.proofs.Steps.{steps}
-use Rattle.state.specs.Calls.{Framed, calls, fronts}
+use Rattle.lent.specs.Calls.{Framed, calls, fronts}
 use Rattle.shelf.specs.Layout.{readerBytes}
 use Rattle.shelf.specs.Fresh as shelf
 use Rattle.shelf.specs.Runs.{readingsOf}

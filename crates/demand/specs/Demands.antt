@@ -19,7 +19,7 @@ use Rattle.delivery.specs.Chosen.{Arrival, ownOf, arrived, NoOthers, Gaps, Come
 use Rattle.delivery.specs.HandedOut.{Given, of, arrivedWhole}
 use Rattle.delivery.specs.Fates.{Fate, arrivals, Quiet, fatesOf}
 use Rattle.state.specs.Layout.{stateBytes}
-use Rattle.state.specs.Calls.{Framed, calls}
+use Rattle.lent.specs.Calls.{Framed, calls}
 use Rattle.machine.specs.Called.{startOf}
 use Rattle.machine.specs.Runs.{repliesOf}
 use Rattle.shelf.specs.Layout.{readerBytes}

@@ -16,7 +16,8 @@ use Rattle.paper.specs.Runs.{runs, reads}
 use Rattle.paper.specs.History.{history, sentBy, Counted}
 use Rattle.state.specs.Layout.{stateBytes}
 use Rattle.state.specs.View.{view}
-use Rattle.state.specs.Calls.{Bytes, Framed, calls}
+use Rattle.wire.specs.Wire.{Bytes}
+use Rattle.lent.specs.Calls.{Framed, calls}
 use Rattle.machine.specs.Called.{stepOf, startOf}
 use Rattle.machine.specs.Runs.{Agrees, runOf}
 use Rattle.shelf.specs.Layout.{readerBytes}

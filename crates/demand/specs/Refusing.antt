@@ -11,7 +11,7 @@ use mathlib.Core.List.{List, []}
 use mathlib.Core.Logic.{_⊎_}
 use Prim.Native.Nat.{ℕ, _/_, _%_, _≤_, _<_}
 use lib.ListN.{length, drop}
-use Rattle.wire.specs.Wire.{be16}
+use Rattle.wire.specs.Wire.{be16, Bytes}
 use Rattle.paper.specs.Frames.{Channel, broadcast, command, frameOf}
 use Rattle.paper.specs.Streams.{pieces, listed}
 use Rattle.paper.specs.Queue.{put}
@@ -21,8 +21,8 @@ use Rattle.paper.specs.Reader.{Track, distance, placed, Reader, readerStart, re
 use Rattle.state.specs.Layout.{stateBytes}
 use Rattle.state.specs.View.{view}
 use Rattle.state.specs.Range.{fit}
-use Rattle.state.specs.Told.{Told, told, Res, res}
-use Rattle.state.specs.Calls.{Bytes, Framed}
+use Rattle.lent.specs.Told.{Told, told, Res, res}
+use Rattle.lent.specs.Calls.{Framed}
 use Rattle.machine.specs.Called.{stepOf, startOf}
 use Rattle.machine.specs.Runs.{runOf}
 use Rattle.shelf.specs.Layout.{readerBytes}

@@ -16,7 +16,7 @@ use Rattle.wire.proofs.Runs.{getD-part, length-put}
 use Rattle.paper.specs.Streams.{pieces, listed, carried}
 use Rattle.paper.specs.Status.{bit}
 use Rattle.paper.specs.Reader.{distance, placed, all99, sound, wellFormed, packetOf}
-use Rattle.state.specs.Told.{Res, res}
+use Rattle.lent.specs.Told.{Res, res}
 use Rattle.paper.proofs.Table.{Carried, carried-rules}
 use Rattle.track.specs.declared.Track.{Track}
 use Rattle.track.specs.declared.Moved.{Moved}

@@ -15,7 +15,7 @@ ghost use Rattle.wire.specs.Wire.{be16, part, put};
 ghost use Rattle.paper.specs.Streams as Streams;
 ghost use Rattle.paper.specs.Reader as Reader;
 ghost use Rattle.paper.specs.Status.{bit};
-ghost use Rattle.state.specs.Told.{told, res};
+ghost use Rattle.lent.specs.Told.{told, res};
 ghost use Rattle.shelf.specs.Layout.{markAt, readerMark, gatherAt, readerBytes};
 ghost use Rattle.shelf.specs.Range as Range;
 ghost use Rattle.shelf.specs.Fresh.{freshOn, startOf};

@@ -7,10 +7,11 @@ use native.Mathlib.Omega.{arith}
 use lib.Dec.{leb, ltb, eqb}
 use lib.ListN.{length, length-append}
 use borrow.Author.Tests.{le-leb, lt-leb, ltb-true, ltb-false}
+use Rattle.wire.specs.Wire.{Bytes}
 use Rattle.hexline.specs.Hex.{Read, bytes, faulty, front, pair, readHex, valueOf}
 use Rattle.hexline.specs.Lines.{longest, Line, kept, over, more, bytesOr, frameOf}
 use Rattle.hexline.specs.Talk.{Way, talk, lastly, closed, spoken}
-use Rattle.hexline.specs.Frames.{inFront, linesIn, frameFor, framesOf, OfBytes, EachOfBytes, answers}
+use Rattle.hexline.specs.Frames.{inFront, linesIn, frameFor, framesOf, EachOfBytes, answers}
 use Rattle.hexline.proofs.Talk.{on, wrote}
 
 -- ---- a line still open, and the lines of more input
@@ -92,31 +93,31 @@ module _ (a : Way) where
 
 -- ---- frames are of bytes
 
-none-of-bytes : OfBytes []
+none-of-bytes : Bytes []
 none-of-bytes i = omega arith
 
-front-of-bytes : (x : ℕ) (r : Read) → x < 256 → OfBytes (bytesOr r) → OfBytes (bytesOr (front x r))
+front-of-bytes : (x : ℕ) (r : Read) → x < 256 → Bytes (bytesOr r) → Bytes (bytesOr (front x r))
 front-of-bytes x (bytes xs) h k zero = h
 front-of-bytes x (bytes xs) h k (suc i) = k i
 front-of-bytes x faulty h k i = k i
 
 -- two digits are a byte
-pair-of-bytes : (h l : ℕ) (r : Read) → OfBytes (bytesOr r) → OfBytes (bytesOr (pair h l r))
+pair-of-bytes : (h l : ℕ) (r : Read) → Bytes (bytesOr r) → Bytes (bytesOr (pair h l r))
 pair-of-bytes h l r k = at (ltb h 16) refl (ltb l 16) refl
   where
-    at : (a : Bool) → ltb h 16 ≡ a → (b : Bool) → ltb l 16 ≡ b → OfBytes (bytesOr (cond a (cond b (front (h * 16 + l) r) faulty) faulty))
+    at : (a : Bool) → ltb h 16 ≡ a → (b : Bool) → ltb l 16 ≡ b → Bytes (bytesOr (cond a (cond b (front (h * 16 + l) r) faulty) faulty))
     at true p true q = front-of-bytes (h * 16 + l) r (omega (arith, ltb-true h 16 p, ltb-true l 16 q)) k
     at true p false q = none-of-bytes
     at false p b q = none-of-bytes
 
-read-of-bytes : (l : List ℕ) → OfBytes (bytesOr (readHex l))
+read-of-bytes : (l : List ℕ) → Bytes (bytesOr (readHex l))
 unfolding readHex
 read-of-bytes [] = none-of-bytes
 read-of-bytes (a ∷ []) = none-of-bytes
 read-of-bytes (a ∷ b ∷ rest) = pair-of-bytes (valueOf a) (valueOf b) (readHex rest) (read-of-bytes rest)
 
-frame-of-bytes : (l : List ℕ) → OfBytes (frameFor l)
-frame-of-bytes l = on (λ (b : Bool). OfBytes (cond b (bytesOr (readHex l)) [])) (leb (length l) longest) (read-of-bytes l) none-of-bytes
+frame-of-bytes : (l : List ℕ) → Bytes (frameFor l)
+frame-of-bytes l = on (λ (b : Bool). Bytes (cond b (bytesOr (readHex l)) [])) (leb (length l) longest) (read-of-bytes l) none-of-bytes
 
 each-of-bytes : (ls : List (List ℕ)) → EachOfBytes (map frameFor ls)
 each-of-bytes [] = tt

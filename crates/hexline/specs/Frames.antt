@@ -1,10 +1,11 @@
 -- The frames that an input stands for: one a line, in order. And what a program says that answers them one after the other.
 -- Assumes nothing.
-use Prim.Native.Nat.{ℕ, _<_}
+use Prim.Native.Nat.{ℕ}
 use mathlib.Core.Bool.{cond}
 use mathlib.Core.List.{List, [], _∷_, _++_, map}
 use lib.Dec.{leb, eqb}
-use lib.ListN.{length, getD}
+use lib.ListN.{length}
+use Rattle.wire.specs.Wire.{Bytes}
 use Rattle.hexline.specs.Hex.{readHex}
 use Rattle.hexline.specs.Lines.{longest, bytesOr}
 use Rattle.hexline.specs.Talk.{Way}
@@ -27,13 +28,10 @@ frameFor line = cond (leb (length line) longest) (bytesOr (readHex line)) []
 abbrev pub framesOf : List ℕ → List (List ℕ)
 framesOf input = map frameFor (linesIn input)
 
--- a frame is of bytes, and each of some frames is
-abbrev pub OfBytes : List ℕ → Type 0
-OfBytes f = (i : ℕ) → getD f i 0 < 256
-
+-- each of some frames is of bytes
 abbrev pub EachOfBytes : List (List ℕ) → Type 0
 EachOfBytes [] = Unit {0}
-EachOfBytes (f ∷ fs) = OfBytes f × EachOfBytes fs
+EachOfBytes (f ∷ fs) = Bytes f × EachOfBytes fs
 
 -- the text of the answers to frames, each with the state that the one before left
 unfoldable pub answers : Way → List ℕ → List (List ℕ) → List ℕ

@@ -20,7 +20,8 @@ use Rattle.paper.specs.Step.{lateHeard, erred}
 use Rattle.state.specs.Layout.{commandsAt, broadcastsAt, packetsAt, telemetryAt, errorsAt, codeAt, sequenceAt, idAt, firstAt, waitingAt, housedAt, openAt, stateBytes}
 use Rattle.state.specs.View.{talliesIn, piecesIn, view}
 use Rattle.state.specs.Range.{Fit}
-use Rattle.state.proofs.Apart.{Same, put-same, be16-same, fit-same, clock-apart, standing-apart, impact-apart, tallies-apart, first-apart, waiting-apart, counts-apart, opened-apart, pieces-apart}
+use Rattle.lent.proofs.Same.{Same, put-same, be16-same}
+use Rattle.state.proofs.Apart.{fit-same, clock-apart, standing-apart, impact-apart, tallies-apart, first-apart, waiting-apart, counts-apart, opened-apart, pieces-apart}
 use Rattle.machine.specs.Entered.{raisedOn}
 use Rattle.machine.specs.Obeyed.{notedOn, erredOn}
 use Rattle.machine.proofs.Same.{view-tallied, fit-tallied}

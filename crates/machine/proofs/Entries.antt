@@ -22,7 +22,8 @@ use Rattle.paper.specs.Acts.{emptied, enter, ended, commanded}
 use Rattle.state.specs.Layout.{timeAt, mAt, referenceAt, altitudeAt, nibbleAt, flagAt, impactTimeAt, impactModeAt, windowAt, placeAt, furtherAt, ringAt, slotsAt, stateBytes}
 use Rattle.state.specs.View.{clockIn, standingIn, collectionOf, ringFrom, impactIn, talliesIn, view}
 use Rattle.state.specs.Range.{Fit}
-use Rattle.state.proofs.Apart.{Same, Outside, same-trans, put-same, clock-same, standing-same, tallies-same, same-within, be16-same, be24-same, ring-same}
+use Rattle.lent.proofs.Same.{Same, Outside, same-trans, put-same, same-within, be16-same, be24-same}
+use Rattle.state.proofs.Apart.{clock-same, standing-same, tallies-same, ring-same}
 use Rattle.machine.specs.Entered.{noRing, emptiedOn, entryRun, enteredOn}
 use Rattle.machine.specs.Obeyed.{commandedOn}
 use Rattle.machine.proofs.Same.{headed, view-headed, fit-headed, view-stood, fit-stood, view-impacted, fit-impacted}

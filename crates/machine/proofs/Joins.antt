@@ -18,7 +18,8 @@ use Rattle.paper.specs.Acts.{answer}
 use Rattle.paper.specs.Step.{holds, crowded, queues, reply, isError, Count, ofBroadcasts, ofCommands, ofPolls, ofNone, countOf, unchanged, lateOn, errorOn, change}
 use Rattle.state.specs.Layout.{housedAt, broadcastsAt}
 use Rattle.state.specs.View.{view}
-use Rattle.state.specs.Told.{Told, told, replyTo, handled, Res, res, answered}
+use Rattle.lent.specs.Told.{Told, told, Res, res}
+use Rattle.state.specs.Told.{replyTo, handled, answered}
 use Rattle.machine.specs.Entered.{raisedOn}
 use Rattle.machine.specs.Obeyed.{erredOn}
 use Rattle.machine.specs.Called.{actedOn, changedOn, refusedOn, repliedOn}

@@ -33,7 +33,7 @@ use Rattle.state.specs.Layout.{timeAt, mAt, nibbleAt, flagAt, impactTimeAt, win
 use Rattle.state.specs.View.{clockIn, standingIn, impactIn, samplesIn, heldIn, view}
 use Rattle.state.specs.Range.{Fit, fit}
 use Rattle.state.specs.Fresh.{zeros, startedOn}
-use Rattle.state.specs.Told.{Told, Res}
+use Rattle.lent.specs.Told.{Told, Res}
 use Rattle.state.proofs.Ranges.{fit-true}
 use Rattle.machine.specs.Stores.{slot, laid, queuedOn, droppedOn, Swept, sweep, shut, clearedOn}
 use Rattle.machine.specs.Built.{sentOn, housekeptOn, recordedOn, stampIn, fullOn, singleOn}

@@ -25,7 +25,8 @@ use Rattle.paper.specs.Queue as paper
 use Rattle.state.specs.Layout.{firstAt, waitingAt, housedAt, streams, countAt, openAt, ringAt, slotsAt, slotAt, stateBytes}
 use Rattle.state.specs.View.{openIn, countIn, pieceIn, piecesIn, view}
 use Rattle.state.specs.Range.{Fit}
-use Rattle.state.proofs.Apart.{Same, same-refl, same-trans, same-within, Outside, put-same, count-where, counts-same, shut-open, opened-same, open-where, pieces-same, pieces-apart, pieces-apart-slot, streams-same, fit-same}
+use Rattle.lent.proofs.Same.{Same, same-refl, same-trans, same-within, Outside, put-same}
+use Rattle.state.proofs.Apart.{count-where, counts-same, shut-open, opened-same, open-where, pieces-same, pieces-apart, pieces-apart-slot, streams-same, fit-same}
 use Rattle.state.proofs.Pieces.{length-pieces, pieces-round, pieces-snoc, piece-bytes, piece-stored, piece-of}
 use Rattle.machine.specs.Stores.{slot, laid, queuedOn, droppedOn, Swept, sweep, shut, clearedOn}
 

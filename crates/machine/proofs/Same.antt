@@ -17,7 +17,8 @@ use Rattle.paper.specs.Controller.{Tallies, Controller, withClock, withStanding
 use Rattle.state.specs.Layout.{mAt, nibbleAt, flagAt, windowAt, placeAt, furtherAt, firstAt, waitingAt, ringAt, slotsAt, stateBytes}
 use Rattle.state.specs.View.{clockIn, standingIn, impactIn, talliesIn, piecesIn, streamsIn, view}
 use Rattle.state.specs.Range.{Fit}
-use Rattle.state.proofs.Apart.{Same, Outside, put-same, clock-apart, standing-apart, impact-apart, tallies-apart, same-sym, same-within, be16-same, clock-same, standing-same, impact-same, tallies-same, counts-same, opened-same, housed-same, pieces-same}
+use Rattle.lent.proofs.Same.{Same, Outside, put-same, same-sym, same-within, be16-same}
+use Rattle.state.proofs.Apart.{clock-apart, standing-apart, impact-apart, tallies-apart, clock-same, standing-same, impact-same, tallies-same, counts-same, opened-same, housed-same, pieces-same}
 
 -- ---- the controller of bytes whose rest agrees with other bytes
 

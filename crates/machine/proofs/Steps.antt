@@ -10,7 +10,7 @@ use borrow.Author.Tests.{eqb-true, eqb-false, ltb-false, not-false, le-leb}
 use lib.Dec.{eqb, leb, ltb}
 use lib.ListN.{length, getD, drop}
 use lib.Seq.{getD-drop}
-use Rattle.wire.specs.Wire.{be16, put}
+use Rattle.wire.specs.Wire.{be16, put, Bytes}
 use Rattle.paper.specs.Frames.{Channel, Frame, broadcast, command, tick, sample, poll, status, analogue, faulty, frameOf}
 use Rattle.paper.specs.Commands.{Request, clear, housekeeping, setMode, Decoded, request, refusal, outside, decoded}
 use Rattle.paper.specs.Streams.{acc-i, hk, width}
@@ -26,8 +26,8 @@ use Rattle.state.specs.Layout.{stateBytes, housedAt, waitingAt}
 use Rattle.state.specs.View.{view}
 use Rattle.state.specs.Range.{Fit, fit}
 use Rattle.state.specs.Fresh.{startedOn}
-use Rattle.state.specs.Told.{res}
-use Rattle.state.specs.Calls.{Bytes, Framed, calls}
+use Rattle.lent.specs.Told.{res}
+use Rattle.lent.specs.Calls.{Framed, calls}
 use Rattle.state.proofs.Ranges.{fit-true, true-fit}
 use Rattle.machine.specs.Heard.{heardOn, movedOn}
 use Rattle.machine.specs.Obeyed.{notedOn, performedOn}

@@ -30,7 +30,8 @@ use Rattle.paper.specs.Acts.{enter, counted, inProximity, last, completes, take
 use Rattle.state.specs.Layout.{mAt, nibbleAt, flagAt, impactTimeAt, impactModeAt, windowAt, placeAt, furtherAt, commandsAt, firstAt, waitingAt, housedAt, ringAt, slotsAt, stateBytes}
 use Rattle.state.specs.View.{clockIn, standingIn, collectionOf, ringFrom, impactIn, view}
 use Rattle.state.specs.Range.{Fit}
-use Rattle.state.proofs.Apart.{Same, same-sym, same-trans, same-within, put-same, be16-same, be24-same, clock-same, standing-same, ring-same, impact-same, tallies-same, housed-same}
+use Rattle.lent.proofs.Same.{Same, same-sym, same-trans, same-within, put-same, be16-same, be24-same}
+use Rattle.state.proofs.Apart.{clock-same, standing-same, ring-same, impact-same, tallies-same, housed-same}
 use Rattle.machine.specs.Stores.{Free}
 use Rattle.machine.specs.Built.{recordedOn}
 use Rattle.machine.specs.Entered.{enteredOn}

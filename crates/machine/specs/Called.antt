@@ -15,7 +15,7 @@ use Rattle.state.specs.Layout.{stateBytes, housedAt, broadcastsAt}
 use Rattle.state.specs.View.{view}
 use Rattle.state.specs.Range.{fit}
 use Rattle.state.specs.Fresh.{startedOn}
-use Rattle.state.specs.Told.{Told, told, Res, res}
+use Rattle.lent.specs.Told.{Told, told, Res, res}
 use Rattle.machine.specs.Entered.{raisedOn}
 use Rattle.machine.specs.Heard.{heardOn, movedOn}
 use Rattle.machine.specs.Ticked.{tickedOn}

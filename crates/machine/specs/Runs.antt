@@ -7,7 +7,7 @@ use Rattle.wire.specs.Wire.{put}
 use Rattle.paper.specs.Step.{Outcome}
 use Rattle.state.specs.View.{view}
 use Rattle.state.specs.Range.{Fit}
-use Rattle.state.specs.Told.{Res}
+use Rattle.lent.specs.Told.{Res}
 use Rattle.machine.specs.Called.{stepOf}
 
 -- What a call on bytes came to, and an outcome of document 01, with the output o that was lent: the same reply; the outcome's bytes

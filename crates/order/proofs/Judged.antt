@@ -14,7 +14,8 @@ use Rattle.paper.specs.Streams.{hk}
 use Rattle.paper.specs.Step.{crowded, queues, reply}
 use Rattle.state.specs.Layout.{waitingAt}
 use Rattle.state.specs.View.{view}
-use Rattle.state.specs.Told.{told, replyTo, handled}
+use Rattle.lent.specs.Told.{told}
+use Rattle.state.specs.Told.{replyTo, handled}
 use Rattle.paper.specs.Controller.{Controller}
 use Rattle.paper.specs.Acts.{noted}
 use Rattle.state.specs.Range.{Fit}

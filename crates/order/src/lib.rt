@@ -22,7 +22,8 @@ ghost use Rattle.frames.specs.Meaning.{channel};
 ghost use Rattle.command.specs.Meaning.{asked, meant};
 ghost use Rattle.state.specs.Layout.{stateBytes};
 ghost use Rattle.state.specs.Range.{Fit};
-ghost use Rattle.state.specs.Told.{told, handled};
+ghost use Rattle.lent.specs.Told.{told};
+ghost use Rattle.state.specs.Told.{handled};
 ghost use Rattle.machine.specs.Stores.{Free};
 ghost use Rattle.machine.specs.Obeyed.{notedOn, erredOn, commandedOn, obeyedOn, performedOn};
 

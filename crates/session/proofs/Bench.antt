@@ -10,7 +10,7 @@ use lib.Dec.{eqb, leb}
 use lib.ListN.{length, take, drop, replicate, length-replicate}
 use lib.Seq.{take-at}
 use borrow.Author.Tests.{eqb-true, eqb-false, le-leb}
-use Rattle.wire.specs.Wire.{put}
+use Rattle.wire.specs.Wire.{put, Bytes}
 use Rattle.hexline.specs.Hex.{hexOf}
 use Rattle.hexline.specs.Frames.{framesOf, EachOfBytes, answers}
 use Rattle.hexline.proofs.Frames.{spoken-answers, frames-of-bytes}
@@ -25,7 +25,6 @@ use Rattle.state.specs.Layout.{stateBytes}
 use Rattle.state.specs.View.{view}
 use Rattle.state.specs.Range.{Fit}
 use Rattle.state.specs.Fresh.{startedOn}
-use Rattle.state.specs.Calls.{Bytes}
 use Rattle.machine.specs.Called.{stepOf, startOf}
 use Rattle.machine.specs.Runs.{Agrees}
 use Rattle.machine.proofs.Fresh.{start-view, start-fit}

@@ -6,7 +6,7 @@ use native.Mathlib.Omega.{arith}
 use lib.ListN.{length, take, set}
 use Rattle.hexline.specs.Hex.{hexOf, digitOf, decimalOf}
 use Rattle.hexline.proofs.Laws.{stored, stored-two}
-use Rattle.state.specs.Told.{Res}
+use Rattle.lent.specs.Told.{Res}
 use Rattle.shelf.specs.Received.{readOf}
 use Rattle.shelf.proofs.Replies.{Told, replies}
 use Rattle.session.specs.Bench.{written}

@@ -8,7 +8,7 @@ use lib.ListN.{take, getD, replicate}
 use Rattle.hexline.specs.Hex.{hexOf}
 use Rattle.hexline.specs.Talk.{Answer, Way}
 use Rattle.state.specs.Layout.{stateBytes}
-use Rattle.state.specs.Told.{Res}
+use Rattle.lent.specs.Told.{Res}
 use Rattle.machine.specs.Called.{stepOf, startOf}
 
 -- "Accepted polls write 126 bytes, status 2, others none"; "No refusal touches the output."

@@ -9,7 +9,7 @@ use Rattle.wire.specs.Wire.{be16}
 use Rattle.paper.specs.Streams.{listed}
 use Rattle.hexline.specs.Hex.{hexOf, decimalOf}
 use Rattle.hexline.specs.Talk.{Answer, Way}
-use Rattle.state.specs.Told.{Res}
+use Rattle.lent.specs.Told.{Res}
 use Rattle.shelf.specs.Layout.{readerBytes}
 use Rattle.shelf.specs.Fresh.{startOf}
 use Rattle.shelf.specs.Received.{readOf}

@@ -16,7 +16,7 @@ use Rattle.paper.specs.Streams.{pieces, listed, carried}
 use Rattle.paper.specs.Packets.{chunks, joined}
 use Rattle.paper.specs.Queue as Queue
 use Rattle.paper.specs.Reader.{Track, fresh, distance, placed, gathers, moves, arrives, arrive, Packet, packet, notCarried, noPacket, packetOf, sound, Reader, heard, received, understood, readerStep}
-use Rattle.state.specs.Told.{res}
+use Rattle.lent.specs.Told.{res}
 use Rattle.paper.proofs.Packets.{joined-chunks}
 use Rattle.paper.proofs.Table.{Carried, carried-rules}
 use Rattle.shelf.specs.Layout.{recordAt, placeAt, gatherAt, pieceAt}

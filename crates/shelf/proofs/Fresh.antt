@@ -14,7 +14,7 @@ use Rattle.wire.proofs.Runs.{length-put, drop-put, be16-put-same}
 use Rattle.paper.specs.Streams.{pieces, carried}
 use Rattle.paper.specs.Reader.{fresh, readerStart}
 use Rattle.paper.proofs.Table.{Carried, carried-rules}
-use Rattle.state.proofs.Apart.{Same, same-refl, same-trans, be16-same}
+use Rattle.lent.proofs.Same.{Same, same-refl, same-trans, be16-same}
 use Rattle.shelf.specs.Layout.{markAt, readerMark, streams, readerBytes}
 use Rattle.shelf.specs.View.{trackIn, readerIn}
 use Rattle.shelf.specs.Range.{Fit}

@@ -19,7 +19,7 @@ use Rattle.wire.proofs.Runs.{length-put, drop-put, getD-put-inside, part-put-sa
 use Rattle.paper.specs.Streams.{pieces}
 use Rattle.paper.specs.Packets.{chunks}
 use Rattle.paper.specs.Reader.{placed}
-use Rattle.state.proofs.Apart.{Same, same-trans, Outside, put-same, be16-same, chunks-same, chunks-snoc}
+use Rattle.lent.proofs.Same.{Same, same-trans, Outside, put-same, be16-same, chunks-same, chunks-snoc}
 use Rattle.shelf.specs.Layout.{markAt, streams, recordAt, placeAt, runsAt, gatherAt, pieceAt, readerBytes}
 use Rattle.shelf.specs.View.{lastIn, placeIn, trackIn}
 use Rattle.shelf.specs.Received.{recordOf, recordedOn}

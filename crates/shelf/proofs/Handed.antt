@@ -15,7 +15,7 @@ use Rattle.wire.proofs.Runs.{length-part}
 use Rattle.paper.specs.Streams.{pieces, listed, carried}
 use Rattle.paper.specs.Reader.{distance, placed, Packet, packet, notCarried, noPacket, wellFormed, packetOf, sound, understood, readerStep}
 use Rattle.paper.proofs.Table.{Carried, carried-rules}
-use Rattle.state.specs.Told.{Res, res}
+use Rattle.lent.specs.Told.{Res, res}
 use Rattle.shelf.specs.Layout.{readerBytes, gatherAt, pieceAt}
 use Rattle.shelf.specs.View.{lastIn, placeIn, runsIn, readerIn}
 use Rattle.shelf.specs.Range.{Fit}

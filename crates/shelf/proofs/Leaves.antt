@@ -11,15 +11,14 @@ use native.Mathlib.Omega.{arith}
 use lib.Dec.{eqb, ltb}
 use lib.ListN.{length, getD, take, drop}
 use borrow.Author.Tests.{ltb-true, ltb-false, eqb-false}
-use Rattle.wire.specs.Wire.{be16, put}
+use Rattle.wire.specs.Wire.{be16, put, Bytes}
 use Rattle.wire.proofs.Runs.{drop-put}
 use Rattle.paper.specs.Streams.{pieces, listed, carried}
 use Rattle.paper.specs.Packets.{joined}
 use Rattle.paper.specs.Queue as Queue
 use Rattle.paper.specs.Reader.{Track, distance, placed, gathers, moves, arrives, arrive, Packet, packet, notCarried, noPacket, wellFormed, packetOf, sound, Reader, Heard, heard, received, understood, readerStep}
 use Rattle.paper.proofs.Table.{Carried, carried-rules}
-use Rattle.state.specs.Told.{res}
-use Rattle.state.specs.Calls.{Bytes}
+use Rattle.lent.specs.Told.{res}
 use Rattle.shelf.specs.Layout.{pieceAt, readerBytes}
 use Rattle.shelf.specs.View.{lastIn, placeIn, runsIn, readerIn}
 use Rattle.shelf.specs.Range.{fit}

@@ -15,7 +15,7 @@ use Rattle.paper.specs.Streams.{pieces, listed, carried}
 use Rattle.paper.specs.Packets.{joined}
 use Rattle.paper.specs.Queue as Queue
 use Rattle.paper.specs.Reader.{Track, fresh, distance, placed, Arrival, repeated, taken, finished, gathers, moves, arrives, arrive, Packet, packet, notCarried, noPacket, packetOf, sound, Reader, Heard, heard, received, understood, readerStep}
-use Rattle.state.specs.Told.{Res, res}
+use Rattle.lent.specs.Told.{Res, res}
 use Rattle.paper.proofs.Table.{rule}
 use Rattle.shelf.specs.View.{lastIn, trackIn, readerIn}
 use Rattle.shelf.specs.Range.{fit}

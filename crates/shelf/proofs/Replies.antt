@@ -11,7 +11,7 @@ use Rattle.paper.specs.Streams.{pieces, listed, carried}
 use Rattle.paper.specs.Packets.{joined}
 use Rattle.paper.specs.Queue as Queue
 use Rattle.paper.specs.Reader.{Arrival, repeated, taken, finished, arrive, Packet, packet, notCarried, noPacket, wellFormed, packetOf, sound, Reader, heard, received, understood, readerStep}
-use Rattle.state.specs.Told.{res}
+use Rattle.lent.specs.Told.{res}
 use Rattle.shelf.specs.View.{readerIn}
 use Rattle.shelf.specs.Range.{fit}
 use Rattle.shelf.specs.Received.{receivedOn, toldOf, readOf}

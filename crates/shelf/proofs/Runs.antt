@@ -7,7 +7,8 @@ use Prim.Native.Nat.{ℕ, _≤_}
 use lib.ListN.{length}
 use Rattle.paper.specs.Reader.{Reader, readerStart, readerStep}
 use Rattle.paper.specs.Runs.{reads, readings}
-use Rattle.state.specs.Calls.{Bytes, Framed, calls, fronts}
+use Rattle.wire.specs.Wire.{Bytes}
+use Rattle.lent.specs.Calls.{Framed, calls, fronts}
 use Rattle.shelf.specs.Layout.{readerBytes}
 use Rattle.shelf.specs.View.{readerIn}
 use Rattle.shelf.specs.Range.{Fit, fit}

@@ -9,14 +9,13 @@ use native.Mathlib.Omega.{arith}
 use lib.Dec.{eqb, ltb}
 use lib.ListN.{length, getD, drop}
 use borrow.Author.Tests.{ltb-true, eqb-true, eqb-false}
-use Rattle.wire.specs.Wire.{be16, put}
+use Rattle.wire.specs.Wire.{be16, put, Bytes}
 use Rattle.paper.specs.Streams.{pieces, carried}
 use Rattle.paper.specs.Packets.{chunks, joined}
 use Rattle.paper.specs.Queue as Queue
 use Rattle.paper.specs.Reader.{Track, fresh, distance, placed, gathers, moves, arrives, arrive, Packet, packet, notCarried, noPacket, packetOf, sound, Reader, Heard, heard, received, understood, readerStep}
-use Rattle.state.specs.Told.{res}
-use Rattle.state.specs.Calls.{Bytes}
-use Rattle.state.proofs.Apart.{be16-same}
+use Rattle.lent.specs.Told.{res}
+use Rattle.lent.proofs.Same.{be16-same}
 use Rattle.paper.proofs.Table.{Carried, carried-rules}
 use Rattle.shelf.specs.Layout.{markAt, placeAt, gatherAt, pieceAt, readerBytes}
 use Rattle.shelf.specs.View.{lastIn, placeIn, runsIn, trackIn, readerIn}

@@ -9,7 +9,7 @@ use lib.ListN.{length, getD}
 use Rattle.wire.specs.Wire.{be16, part, put}
 use Rattle.paper.specs.Streams.{pieces, listed}
 use Rattle.paper.specs.Reader.{distance, placed, Packet, packet, notCarried, noPacket, packetOf, sound}
-use Rattle.state.specs.Told.{Res, res}
+use Rattle.lent.specs.Told.{Res, res}
 use Rattle.shelf.specs.Layout.{gatherAt}
 use Rattle.shelf.specs.View.{lastIn, placeIn, runsIn}
 use Rattle.shelf.specs.Range.{fit}

@@ -7,7 +7,7 @@ use lib.Dec.{leb}
 use lib.ListN.{length, replicate}
 use Rattle.wire.specs.Wire.{bytes16, put}
 use Rattle.paper.specs.Streams.{pieces}
-use Rattle.state.specs.Told.{Told, told}
+use Rattle.lent.specs.Told.{Told, told}
 use Rattle.shelf.specs.Layout.{markAt, readerMark, streams, readerBytes}
 use Rattle.shelf.specs.Received.{recordedOn}
 

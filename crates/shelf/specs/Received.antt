@@ -9,7 +9,7 @@ use lib.ListN.{length, getD}
 use Rattle.wire.specs.Wire.{be16, put}
 use Rattle.paper.specs.Streams.{pieces}
 use Rattle.paper.specs.Reader.{distance, placed, Packet, packet, notCarried, noPacket, packetOf, Heard, readerStep}
-use Rattle.state.specs.Told.{Res, res}
+use Rattle.lent.specs.Told.{Res, res}
 use Rattle.shelf.specs.Layout.{recordAt, pieceAt}
 use Rattle.shelf.specs.View.{lastIn, placeIn, runsIn, readerIn}
 use Rattle.shelf.specs.Range.{fit}

@@ -6,7 +6,7 @@ use Prim.Native.Nat.{ℕ}
 use lib.ListN.{length, drop}
 use Rattle.wire.specs.Wire.{put}
 use Rattle.paper.specs.Reader.{Reader, Heard}
-use Rattle.state.specs.Told.{Res}
+use Rattle.lent.specs.Told.{Res}
 use Rattle.shelf.specs.Layout.{readerBytes}
 use Rattle.shelf.specs.View.{readerIn}
 use Rattle.shelf.specs.Range.{Fit}

@@ -1,6 +1,6 @@
 // The C entries. Each hands its arguments on; a slice is a pointer and a length.
 ghost use mathlib.Core.Path.{_≡_};
-ghost use Rattle.state.specs.Told.{told, res};
+ghost use Rattle.lent.specs.Told.{told, res};
 ghost use Rattle.machine.specs.Called as Controller;
 ghost use Rattle.shelf.specs.Fresh as Reader;
 ghost use Rattle.shelf.specs.Received.{readOf};

@@ -9,14 +9,8 @@ use Rattle.wire.specs.Wire.{put}
 use Rattle.paper.specs.Frames.{Frame}
 use Rattle.paper.specs.Acts.{answer}
 use Rattle.paper.specs.Step.{holds, reply}
+use Rattle.lent.specs.Told.{Told, told, Res, res}
 use Rattle.state.specs.View.{view}
-
-pub record Told : Type 0 where
-  pub reply : ℕ
-  pub state : List ℕ
-
-abbrev pub told : ℕ → List ℕ → Told
-told n s = record { reply = n; state = s }
 
 -- the reply to a frame, where the output is long enough
 abbrev pub replyTo : List ℕ → Frame → ℕ
@@ -25,15 +19,6 @@ replyTo s f = reply (holds (view s)) f 126
 -- a frame accepted leaves `acted`, a frame refused with n leaves `refused n`
 unfoldable pub handled : List ℕ → Frame → List ℕ → (ℕ → List ℕ) → Told
 handled s f acted refused = cond (eqb (replyTo s f) 0) (told 0 acted) (told (replyTo s f) (refused (replyTo s f)))
-
--- the same with an output
-pub record Res : Type 0 where
-  pub reply : ℕ
-  pub out : List ℕ
-  pub state : List ℕ
-
-abbrev pub res : ℕ → List ℕ → List ℕ → Res
-res n o s = record { reply = n; out = o; state = s }
 
 -- a frame that writes its answer at the output's front where it is accepted, and changes nothing where it is refused
 unfoldable pub answered : List ℕ → Frame → List ℕ → List ℕ → Res

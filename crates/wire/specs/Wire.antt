@@ -1,7 +1,12 @@
 -- Numbers and runs of bytes at an offset of a list of bytes. Assumes nothing.
-use Prim.Native.Nat.{ℕ, _+_, _*_, _/_, _%_}
+use Prim.Native.Nat.{ℕ, _+_, _*_, _/_, _%_, _<_}
 use mathlib.Core.List.{List, [], _∷_, _++_}
 use lib.ListN.{length, take, drop, getD}
+
+-- A list is of bytes: its numbers are below 256. A slice of Rattle, as a buffer of C, holds nothing else, so no caller has to see to
+-- it; it is said because definitions speak of lists of any numbers.
+abbrev pub Bytes : List ℕ → Type 0
+Bytes s = (i : ℕ) → getD s i 0 < 256
 
 -- the number that two bytes at an offset are, the higher first
 abbrev pub be16 : List ℕ → ℕ → ℕ

@@ -1,6 +1,6 @@
 -- `controller::frame` meets its contract.
 -- Assumes nothing.
-use Rattle.state.specs.Told.{res}
+use Rattle.lent.specs.Told.{res}
 use Rattle.paper.specs.Frames.{frameOf}
 use Rattle.machine.proofs.Joins.{short-stays}
 use mathlib.Core.Path.{_≡_, sym, ap, _∙_}

@@ -3,7 +3,7 @@
 use borrow.Author.Tests.{lt-leb, le-leb}
 use mathlib.Core.Path.{ap}
 use Rattle.shelf.specs.Fresh.{startOf}
-use Rattle.state.specs.Told.{told}
+use Rattle.lent.specs.Told.{told}
 use Rattle.gather.proofs.Laws.{started-by}
 use borrow.Author.Needs.{needs}
 use Rattle.gather.proofs.start.Statement.{statement}

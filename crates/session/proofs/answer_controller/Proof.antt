@@ -7,7 +7,7 @@ use native.Mathlib.Omega.{arith}
 use lib.ListN.{take}
 use lib.Seq.{length-take-le}
 use Rattle.hexline.specs.Hex.{hexOf}
-use Rattle.state.specs.Told.{Res, res}
+use Rattle.lent.specs.Told.{Res, res}
 use Rattle.machine.specs.Called.{stepOf}
 use Rattle.session.specs.Bench.{answered, blank}
 use borrow.Author.Needs.{needs}

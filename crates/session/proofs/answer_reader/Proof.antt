@@ -6,7 +6,7 @@ use mathlib.Core.List.{List, _++_}
 use native.Mathlib.Omega.{arith}
 use lib.ListN.{take}
 use lib.Seq.{length-take-le}
-use Rattle.state.specs.Told.{Res, res}
+use Rattle.lent.specs.Told.{Res, res}
 use Rattle.shelf.specs.Received.{readOf}
 use Rattle.session.specs.Reader.{lineFor, answered, blank}
 use Rattle.session.proofs.Laws.{told}
