@@ -13,13 +13,13 @@ ghost use Rattle.wire.specs.Wire.{put};
 ghost use Rattle.paper.specs.Frames as Frames;
 ghost use Rattle.paper.specs.Packets.{packetId};
 ghost use Rattle.paper.specs.Acts as Acts;
-ghost use Rattle.frames.specs.Meaning.{channel};
+ghost use Rattle.frames.specs.declared.Kind.the-variants.{Status};
+ghost use Rattle.frames.specs.Meaning.{channel, meant};
 ghost use Rattle.state.specs.Layout.{waitingAt, telemetryAt};
 ghost use Rattle.state.specs.View.{view};
 ghost use Rattle.state.specs.Range.{Fit};
 ghost use Rattle.lent.specs.Told.{res};
-ghost use Rattle.state.specs.Told.{answered};
-ghost use Rattle.machine.specs.Polled.{polledOn};
+ghost use Rattle.machine.specs.Called.{repliedOn};
 
 // The packet ID of a channel.
 fn packet_id(side: Side) -> u16
@@ -53,7 +53,7 @@ fn show(s: &[u8], side: Side, out: &mut [u8])
 // The reply to a poll.
 pub fn poll(s: &mut [u8], side: Side, out: &mut [u8]) -> u8
     requires { ⌜ (Fit (now s)) × (126 ≤ length (now out)) ⌝ }
-    ensures { λ r. ⌜ res r (now (out .exit)) (now (s .exit)) ≡ answered (now (s .entry)) (Frames.poll (channel side)) (now (out .entry)) (polledOn (now (s .entry)) (channel side)) ⌝ }
+    ensures { λ r. ⌜ res r (now (out .exit)) (now (s .exit)) ≡ repliedOn (now (s .entry)) (Frames.poll (channel side)) (now (out .entry)) ⌝ }
 {
     if s[WAITING] == 0 {
         return 9;
@@ -80,7 +80,7 @@ fn word(s: &[u8], side: Side, low: u8, flags: u8) -> u16
 // Answers a status frame, which is always accepted.
 pub fn status(s: &[u8], side: Side, f: &[u8], out: &mut [u8])
     requires { ⌜ (Fit (now s)) × (length (now f) ≡ 4) × (126 ≤ length (now out)) ⌝ }
-    ensures { λ _. ⌜ now (out .exit) ≡ put (now (out .entry)) 0 (Acts.answer (view (now (s .entry))) (Frames.status (channel side) (Frames.byte (now (f .entry)) 2) (Frames.byte (now (f .entry)) 3))) ⌝ }
+    ensures { λ _. ⌜ res 0 (now (out .exit)) (now (s .entry)) ≡ repliedOn (now (s .entry)) (meant (Status side) (now (f .entry))) (now (out .entry)) ⌝ }
 {
     let word = word(s, side, f[2], f[3]);
     wire::set16(out, 0, word);

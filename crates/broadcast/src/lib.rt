@@ -11,14 +11,13 @@ ghost use mathlib.Core.Path.{_≡_};
 ghost use Prim.Native.Nat.{_<_, _≤_};
 ghost use lib.ListN.{length};
 ghost use Rattle.wire.specs.Wire.{be16};
-ghost use Rattle.paper.specs.Frames.{broadcast, byte};
-ghost use Rattle.frames.specs.Meaning.{channel};
-ghost use Rattle.state.specs.Layout.{stateBytes, broadcastsAt};
+ghost use Rattle.paper.specs.Frames.{byte};
+ghost use Rattle.frames.specs.declared.Kind.the-variants.{Broadcast};
+ghost use Rattle.frames.specs.Meaning.{channel, meant};
 ghost use Rattle.state.specs.Range.{Fit};
 ghost use Rattle.lent.specs.Told.{told};
-ghost use Rattle.state.specs.Told.{handled};
-ghost use Rattle.machine.specs.Entered.{raisedOn};
 ghost use Rattle.machine.specs.Heard.{heardOn, movedOn};
+ghost use Rattle.machine.specs.Called.{toldOn};
 
 // Its count is raised, its words are stored, and m is 0.
 fn hear(s: &mut [u8], side: Side, f: &[u8])
@@ -64,7 +63,7 @@ fn move_on(s: &mut [u8])
 // The reply to a broadcast.
 pub fn frame(s: &mut [u8], side: Side, f: &[u8]) -> u8
     requires { ⌜ (Fit (now s)) × (length (now f) ≡ 8) ⌝ }
-    ensures { λ r. ⌜ told r (now (s .exit)) ≡ handled (now (s .entry)) (broadcast (channel side) (be16 (now (f .entry)) 2) (be16 (now (f .entry)) 4) (byte (now (f .entry)) 6) (byte (now (f .entry)) 7)) (movedOn (heardOn (now (s .entry)) (channel side) (be16 (now (f .entry)) 2) (be16 (now (f .entry)) 4) (byte (now (f .entry)) 6) (byte (now (f .entry)) 7))) (λ n. raisedOn (now (s .entry)) (broadcastsAt (channel side))) ⌝ }
+    ensures { λ r. ⌜ told r (now (s .exit)) ≡ toldOn (now (s .entry)) (meant (Broadcast side) (now (f .entry))) 126 ⌝ }
 {
     if clock::seconds(wire::get16(f, 2)) < clock::seconds(wire::get16(s, TIME)) {
         entry::raise(s, state::channel_at(BROADCASTS, side));

@@ -6,10 +6,8 @@ ghost use mathlib.Core.Path.{_≡_};
 ghost use Prim.Native.Nat.{_≤_};
 ghost use lib.ListN.{length};
 ghost use Rattle.wire.specs.Wire.{part, put};
-ghost use Rattle.paper.specs.Step.{holds, reply};
 ghost use Rattle.frames.specs.Meaning.{meant, Sized};
 ghost use Rattle.state.specs.Layout.{stateBytes, housedAt};
-ghost use Rattle.state.specs.View.{view};
 ghost use Rattle.state.specs.Range.{Fit};
 ghost use Rattle.lent.specs.Told.{told, res};
 ghost use Rattle.machine.specs.Called.{repliedOn, stepOf, startOf};
@@ -38,7 +36,7 @@ fn house(s: &mut [u8], f: &[u8])
 // The reply to a frame of a kind, with an output that is long enough.
 fn handle(k: Kind, s: &mut [u8], f: &[u8], out: &mut [u8]) -> u8
     requires { ⌜ (Fit (now s)) × (Sized k (now f)) × (126 ≤ length (now out)) ⌝ }
-    ensures { λ r. ⌜ res r (now (out .exit)) (now (s .exit)) ≡ repliedOn (now (s .entry)) (reply (holds (view (now (s .entry)))) (meant k (now (f .entry))) (length (now (out .entry)))) (meant k (now (f .entry))) (now (out .entry)) ⌝ }
+    ensures { λ r. ⌜ res r (now (out .exit)) (now (s .exit)) ≡ repliedOn (now (s .entry)) (meant k (now (f .entry))) (now (out .entry)) ⌝ }
 {
     match k {
         Kind::Broadcast(side) => broadcast::frame(s, side, f),

@@ -6,7 +6,7 @@ use mathlib.Core.List.{List}
 use Prim.Native.Nat.{ℕ, _≤_, _<_}
 use lib.Dec.{eqb, leb}
 use lib.ListN.{length, drop}
-use borrow.Author.Tests.{le-leb, lt-leb, eqb-true, eqb-false}
+use borrow.Author.Tests.{le-leb, lt-leb, ne-eqb, eqb-true, eqb-false}
 use Rattle.paper.specs.Frames.{Channel, Frame, broadcast, command, frameOf}
 use Rattle.paper.specs.Controller.{Controller, start}
 use Rattle.paper.specs.Acts.{answer}
@@ -21,7 +21,7 @@ use Rattle.state.specs.Fresh.{startedOn}
 use Rattle.lent.specs.Calls.{Framed}
 use Rattle.state.proofs.Ranges.{fit-true}
 use Rattle.wire.specs.Wire.{put}
-use Rattle.machine.specs.Called.{actedOn, changedOn, refusedOn, repliedOn, stepOf, startOf}
+use Rattle.machine.specs.Called.{actedOn, changedOn, refusedOn, leftOn, toldOn, repliedOn, stepOf, startOf}
 use Rattle.machine.specs.Runs.{runOf}
 use Rattle.machine.proofs.Past.{call-tail, start-past, past-drop}
 use Rattle.machine.proofs.Fresh.{start-view}
@@ -42,42 +42,21 @@ use Rattle.demand.specs.Refusing.{found, Starts, Judges, Receives, Deman
 
 -- ---- the controller
 
--- what a call that finds a controller comes to, by its reply
-module _ (s : List ℕ) (f : Frame) (o : List ℕ) where
-  came : (b : Bool) (n : ℕ) → eqb n 0 ≡ b
-      → cond b (res 0 (put o 0 (answer (view s) f)) (actedOn s f)) (res n o (refusedOn s n f)) .reply ≡ n
-  came true n e = sym (eqb-true n 0 e)
-  came false n e = refl
-
-  kept-out : (b : Bool) (n : ℕ) → (cond b (res 0 (put o 0 (answer (view s) f)) (actedOn s f)) (res n o (refusedOn s n f)) .reply ≡ 0 → ⊥)
-      → cond b (res 0 (put o 0 (answer (view s) f)) (actedOn s f)) (res n o (refusedOn s n f)) .out ≡ o
-  kept-out true n h = absurd (h refl)
-  kept-out false n h = refl
-
-  refusing : (b : Bool) (n : ℕ) → (cond b (res 0 (put o 0 (answer (view s) f)) (actedOn s f)) (res n o (refusedOn s n f)) .reply ≡ 0 → ⊥)
-      → cond b (res 0 (put o 0 (answer (view s) f)) (actedOn s f)) (res n o (refusedOn s n f)) .state ≡ refusedOn s n f
-  refusing true n h = absurd (h refl)
-  refusing false n h = refl
-
 number : (s f o : List ℕ) → stepOf s f o .reply ≡ reply (found s) (frameOf f) (length o)
-unfolding stepOf repliedOn reply
+unfolding stepOf repliedOn toldOn reply
 number s f o = at (fit s)
   where
-    at : (b : Bool)
-        → cond b (repliedOn s (reply (holds (view s)) (frameOf f) (length o)) (frameOf f) o) (res 10 o s) .reply
-        ≡ reply (cond b (holds (view s)) unfit) (frameOf f) (length o)
-    at true = came s (frameOf f) o (eqb (reply (holds (view s)) (frameOf f) (length o)) 0) (reply (holds (view s)) (frameOf f) (length o)) refl
+    at : (b : Bool) → cond b (repliedOn s (frameOf f) o) (res 10 o s) .reply ≡ reply (cond b (holds (view s)) unfit) (frameOf f) (length o)
+    at true = refl
     at false = refl
 
 silent : (s f o : List ℕ) → (stepOf s f o .reply ≡ 0 → ⊥) → stepOf s f o .out ≡ o
-unfolding stepOf repliedOn
+unfolding stepOf repliedOn toldOn
 silent s f o = at (fit s)
   where
-    n : ℕ
-    n = reply (holds (view s)) (frameOf f) (length o)
-
-    at : (b : Bool) → (cond b (repliedOn s n (frameOf f) o) (res 10 o s) .reply ≡ 0 → ⊥) → cond b (repliedOn s n (frameOf f) o) (res 10 o s) .out ≡ o
-    at true h = kept-out s (frameOf f) o (eqb n 0) n h
+    at : (b : Bool) → (cond b (repliedOn s (frameOf f) o) (res 10 o s) .reply ≡ 0 → ⊥)
+        → cond b (repliedOn s (frameOf f) o) (res 10 o s) .out ≡ o
+    at true h = ap (λ (b : Bool). cond b (put o 0 (answer (view s) (frameOf f))) o) (ne-eqb _ 0 h)
     at false h = refl
 
 -- a refusal that is not 10 comes from bytes that fit
@@ -91,15 +70,14 @@ fitting s f o h = at (fit s) refl
 
 -- and leaves what is stored for it
 left-by : (s f o : List ℕ) → fit s ≡ true → (stepOf s f o .reply ≡ 0 → ⊥) → stepOf s f o .state ≡ refusedOn s (stepOf s f o .reply) (frameOf f)
-unfolding stepOf repliedOn
+unfolding stepOf repliedOn toldOn leftOn
 left-by s f o e h =
     let n : ℕ = reply (holds (view s)) (frameOf f) (length o) in
-    let r : Res = cond (eqb n 0) (res 0 (put o 0 (answer (view s) (frameOf f))) (actedOn s (frameOf f))) (res n o (refusedOn s n (frameOf f))) in
-    let step : stepOf s f o ≡ r = rw e in
-    let there : r .reply ≡ 0 → ⊥ = λ z. h (ap (λ (q : Res). q .reply) step ∙ z) in
+    let step : stepOf s f o ≡ repliedOn s (frameOf f) o = rw e in
+    let told-n : stepOf s f o .reply ≡ n = ap (λ (q : Res). q .reply) step in
     ap (λ (q : Res). q .state) step
-    ∙ refusing s (frameOf f) o (eqb n 0) n there
-    ∙ ap (λ (m : ℕ). refusedOn s m (frameOf f)) (sym (ap (λ (q : Res). q .reply) step ∙ came s (frameOf f) o (eqb n 0) n refl))
+    ∙ ap (λ (b : Bool). cond b (actedOn s (frameOf f)) (refusedOn s n (frameOf f))) (ne-eqb n 0 (λ z. h (told-n ∙ z)))
+    ∙ ap (λ (m : ℕ). refusedOn s m (frameOf f)) (sym told-n)
 
 left-view : (s f o : List ℕ) → fit s ≡ true → (stepOf s f o .reply ≡ 0 → ⊥)
     → view (stepOf s f o .state) ≡ refused (stepOf s f o .reply) (frameOf f) (view s)

@@ -43,7 +43,7 @@ use Rattle.machine.specs.Ticked.{countedOn, takenOn, declaredOn, detecte
 use Rattle.machine.specs.Sampled.{stampedOn, storedOn, keptOn, sampledOn}
 use Rattle.machine.specs.Obeyed.{notedOn, erredOn, commandedOn, obeyedOn, performedOn}
 use Rattle.machine.specs.Polled.{polledOn}
-use Rattle.machine.specs.Called.{actedOn, changedOn, refusedOn, repliedOn, stepOf, startOf}
+use Rattle.machine.specs.Called.{actedOn, changedOn, refusedOn, leftOn, toldOn, repliedOn, stepOf, startOf}
 use Rattle.machine.proofs.Entries.{length-noRing}
 use Rattle.machine.proofs.Counts.{broadcasts-at, packets-at, telemetry-at}
 use Rattle.machine.proofs.Ticks.{counted-fit}
@@ -342,12 +342,12 @@ refused-past s n f w =
 -- ---- one call
 
 pub call-past : (s f o : List ℕ) → Past (stepOf s f o .state) s
-unfolding stepOf repliedOn
+unfolding stepOf repliedOn toldOn leftOn
 call-past s f o =
     either (λ (r : Res). Past (r .state) s) (fit s) _ _
     (λ e.
     let fits = fit-true s e in
-    either (λ (r : Res). Past (r .state) s) (eqb (reply (holds (view s)) (frameOf f) (length o)) 0) _ _
+    either (λ (x : List ℕ). Past x s) (eqb (reply (holds (view s)) (frameOf f) (length o)) 0) _ _
     (λ z. acted-past s (frameOf f) (length o) fits (shaped (λ x. Unit {0}) f tt) (passed (view s) (frameOf f) (length o) (eqb-true _ _ z)))
     (λ z. refused-past s _ (frameOf f) (fits .whole)))
     (λ e. past-refl s)

@@ -31,7 +31,7 @@ use Rattle.lent.specs.Calls.{Framed, calls}
 use Rattle.state.proofs.Ranges.{fit-true, true-fit}
 use Rattle.machine.specs.Heard.{heardOn, movedOn}
 use Rattle.machine.specs.Obeyed.{notedOn, performedOn}
-use Rattle.machine.specs.Called.{actedOn, changedOn, refusedOn, repliedOn, stepOf}
+use Rattle.machine.specs.Called.{actedOn, changedOn, refusedOn, leftOn, toldOn, repliedOn, stepOf}
 use Rattle.machine.specs.Runs.{Agrees, runOf}
 use Rattle.machine.proofs.Queue.{queue-length}
 use Rattle.machine.proofs.Counts.{late-view, late-fit, noted-view, noted-fit, erred-view, erred-fit, housed-view, housed-fit}
@@ -138,7 +138,7 @@ module _ (s : List ℕ) (f : Fit s) where
 
 -- one call is one step
 pub steps : (s f o : List ℕ) → Fit s → Bytes f → Agrees (stepOf s f o) (step (view s) f (length o)) o
-unfolding stepOf repliedOn step replied
+unfolding stepOf repliedOn toldOn leftOn step replied
 steps s f o g b = rw (true-fit s g) (at n refl (eqb n 0) refl)
   where
     x : Frame
@@ -148,11 +148,11 @@ steps s f o g b = rw (true-fit s g) (at n refl (eqb n 0) refl)
     n = reply (holds (view s)) x (length o)
 
     at : (m : ℕ) → n ≡ m → (t : Bool) → eqb m 0 ≡ t
-        → Agrees (cond t (res 0 (put o 0 (answer (view s) x)) (actedOn s x)) (res m o (refusedOn s m x)))
+        → Agrees (res m (cond t (put o 0 (answer (view s) x)) o) (cond t (actedOn s x) (refusedOn s m x)))
         (cond t (outcome 0 (answer (view s) x) (accepted (view s) x)) (outcome m [] (refused m x (view s)))) o
     at m e true t =
         let done = acted-view s g x (length o) (shaped Bytes f (λ i. rw (getD-drop 2 f i 0) (b (2 + i)))) (passed (view s) x (length o) (e ∙ eqb-true m 0 t)) in
-        record { reply = refl; out = refl; held = done .0; fits = done .1 }
+        record { reply = eqb-true m 0 t; out = refl; held = done .0; fits = done .1 }
     at m e false t =
         let left = refused-view s g m x in
         record { reply = refl; out = refl; held = left .0; fits = left .1 }

@@ -1,7 +1,7 @@
 -- One call of the controller on lent bytes: the reply, the output and the bytes that are left, for any bytes, frame and output.
 -- Reply and output are document 01's for the controller that the bytes hold; the bytes that are left are said store by store.
 -- Assumes nothing.
-use mathlib.Core.Bool.{cond, _||_}
+use mathlib.Core.Bool.{cond}
 use mathlib.Core.List.{List}
 use Prim.Native.Nat.{ℕ}
 use lib.Dec.{eqb, leb}
@@ -44,13 +44,25 @@ changedOn s (errorOn cc n) = erredOn s cc n
 unfoldable pub refusedOn : List ℕ → ℕ → Frame → List ℕ
 refusedOn s n f = changedOn s (change n (countOf f))
 
--- "Accepted polls write 126 bytes, status 2, others none; later output bytes stay."
-unfoldable pub repliedOn : List ℕ → ℕ → Frame → List ℕ → Res
-repliedOn s n f o = cond (eqb n 0) (res 0 (put o 0 (answer (view s) f)) (actedOn s f)) (res n o (refusedOn s n f))
+-- the bytes after a frame with reply n
+unfoldable pub leftOn : List ℕ → ℕ → Frame → List ℕ
+leftOn s n f = cond (eqb n 0) (actedOn s f) (refusedOn s n f)
+
+-- what a frame comes to, with an output of so many bytes: its reply, and the bytes that are left
+unfoldable pub toldOn : List ℕ → Frame → ℕ → Told
+toldOn s f room =
+    let n : ℕ = reply (holds (view s)) f room in
+    told n (leftOn s n f)
+
+-- the same with the output. "Accepted polls write 126 bytes, status 2, others none; later output bytes stay."
+unfoldable pub repliedOn : List ℕ → Frame → List ℕ → Res
+repliedOn s f o =
+    let t : Told = toldOn s f (length o) in
+    res (t .reply) (cond (eqb (t .reply) 0) (put o 0 (answer (view s) f)) o) (t .state)
 
 -- "10: state buffer shorter .., or a number kept in it outside its range"
 unfoldable pub stepOf : List ℕ → List ℕ → List ℕ → Res
-stepOf s f o = cond (fit s) (repliedOn s (reply (holds (view s)) (frameOf f) (length o)) (frameOf f) o) (res 10 o s)
+stepOf s f o = cond (fit s) (repliedOn s (frameOf f) o) (res 10 o s)
 
 -- "Starting looks at the buffer's length alone: it replies 0 with a fresh state, later bytes staying, or 10 .. with nothing changed."
 unfoldable pub startOf : List ℕ → Told

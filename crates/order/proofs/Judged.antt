@@ -8,18 +8,18 @@ use borrow.Author.Tests.{eqb-true, eqb-false, ne-eqb}
 use lib.Dec.{eqb, ltb}
 use lib.ListN.{length, getD}
 use Rattle.wire.specs.Wire.{be16}
-use Rattle.paper.specs.Frames.{Channel, command}
+use Rattle.paper.specs.Frames.{Channel, Frame, command}
 use Rattle.paper.specs.Commands.{Request, clear, housekeeping, setMode, Decoded, request, refusal, outside, decoded}
 use Rattle.paper.specs.Streams.{hk}
-use Rattle.paper.specs.Step.{crowded, queues, reply}
+use Rattle.paper.specs.Step.{holds, crowded, queues, isError, reply}
 use Rattle.state.specs.Layout.{waitingAt}
 use Rattle.state.specs.View.{view}
 use Rattle.lent.specs.Told.{told}
-use Rattle.state.specs.Told.{replyTo, handled}
 use Rattle.paper.specs.Controller.{Controller}
 use Rattle.paper.specs.Acts.{noted}
 use Rattle.state.specs.Range.{Fit}
-use Rattle.machine.specs.Obeyed.{notedOn}
+use Rattle.machine.specs.Obeyed.{notedOn, erredOn, performedOn}
+use Rattle.machine.specs.Called.{actedOn, refusedOn, leftOn, toldOn}
 use Rattle.machine.proofs.Queue.{queue-length}
 use Rattle.machine.proofs.Counts.{noted-view}
 
@@ -59,18 +59,26 @@ one-of n b h = at (eqb n 2) refl (eqb n 3) refl (eqb n 4) refl h
     at false e false f true g h = sym (eqb-true n 4 g)
     at false e false f false g h = absurd (eqb-false 0 1 refl (ap (λ (b : Bool). cond b 1 0) h))
 
+-- a refusal counts as an error
+counts : (n : ℕ) → Says (refusal n) → isError n ≡ true
+counts n h = at (eqb n 2) (eqb n 3) (eqb n 4) h
+  where
+    at : (x y z : Bool) → (x || (y || z)) ≡ true → (x || (y || (z || eqb n 7))) ≡ true
+    at true y z h = refl
+    at false true z h = refl
+    at false false true h = refl
+    at false false false h = absurd (eqb-false 0 1 refl (ap (λ (b : Bool). cond b 1 0) h))
+
 module _ (s : List ℕ) (cc : Channel) (id sequence : ℕ) (parameters : List ℕ) where
-  reply-by : (d : Decoded) → decoded id parameters ≡ d
-      → replyTo s (command cc id sequence parameters) ≡ tested d (crowded (view s) hk)
+  abbrev asks : Frame
+  asks = command cc id sequence parameters
+
+  reply-by : (d : Decoded) → decoded id parameters ≡ d → reply (holds (view s)) asks 126 ≡ tested d (crowded (view s) hk)
   unfolding reply
   reply-by (request q) e = rw e
   reply-by (refusal n) e = rw e
 
-  request-reply : (q : Request) → decoded id parameters ≡ request q
-      → replyTo s (command cc id sequence parameters) ≡ cond (queues (request q) && crowded (view s) hk) 7 0
-  request-reply q e = reply-by (request q) e
-
-  refusal-reply : (n : ℕ) → decoded id parameters ≡ refusal n → replyTo s (command cc id sequence parameters) ≡ n
+  refusal-reply : (n : ℕ) → decoded id parameters ≡ refusal n → reply (holds (view s)) asks 126 ≡ n
   refusal-reply n e = reply-by (refusal n) e ∙ one-of n (crowded (view s) hk) (subst Says e (says id parameters))
 
   nonzero : (n : ℕ) → decoded id parameters ≡ refusal n → n ≡ 0 → ⊥
@@ -78,24 +86,20 @@ module _ (s : List ℕ) (cc : Channel) (id sequence : ℕ) (parameters : List �
       eqb-false 0 1 refl
       (ap (λ (b : Bool). cond b 1 0) (ap (λ (m : ℕ). eqb m 2 || (eqb m 3 || eqb m 4)) (sym z) ∙ subst Says e (says id parameters)))
 
-  -- what handling it comes to: a refusal by its number, a request that finds no room, a request that is taken
-  module _ (acted : List ℕ) (refused : ℕ → List ℕ) where
-    pub refuses : (n : ℕ) → decoded id parameters ≡ refusal n
-        → told n (refused n) ≡ handled s (command cc id sequence parameters) acted refused
-    unfolding handled
-    refuses n e = rw (refusal-reply n e, ne-eqb n 0 (nonzero n e))
+  -- what it comes to: a refusal by its number, a request that finds no room, a request that is taken
+  pub refuses : (n : ℕ) → decoded id parameters ≡ refusal n → told n (erredOn s cc n) ≡ toldOn s asks 126
+  unfolding toldOn leftOn refusedOn
+  refuses n e = rw (refusal-reply n e, ne-eqb n 0 (nonzero n e), counts n (subst Says e (says id parameters)))
 
-    pub crowds : (q : Request) → decoded id parameters ≡ request q
-        → (queues (request q) && crowded (view s) hk) ≡ true
-        → told 7 (refused 7) ≡ handled s (command cc id sequence parameters) acted refused
-    unfolding handled
-    crowds q e t = rw (request-reply q e, t)
+  pub crowds : (q : Request) → decoded id parameters ≡ request q → (queues (request q) && crowded (view s) hk) ≡ true
+      → told 7 (erredOn s cc 7) ≡ toldOn s asks 126
+  unfolding toldOn leftOn refusedOn
+  crowds q e t = rw (reply-by (request q) e, t)
 
-    pub takes : (q : Request) → decoded id parameters ≡ request q
-        → (queues (request q) && crowded (view s) hk) ≡ false
-        → told 0 acted ≡ handled s (command cc id sequence parameters) acted refused
-    unfolding handled
-    takes q e t = rw (request-reply q e, t)
+  pub takes : (q : Request) → decoded id parameters ≡ request q → (queues (request q) && crowded (view s) hk) ≡ false
+      → told 0 (performedOn (notedOn s cc id sequence) (decoded id parameters)) ≡ toldOn s asks 126
+  unfolding toldOn leftOn actedOn
+  takes q e t = rw (reply-by (request q) e, t)
 
 -- noting a command leaves how many pieces wait
 pub noted-waits : (s : List ℕ) → Fit s → (cc : Channel) (id sequence : ℕ) → getD (notedOn s cc id sequence) waitingAt 0 ≡ getD s waitingAt 0

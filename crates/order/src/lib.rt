@@ -14,18 +14,19 @@ ghost use mathlib.Core.Bool.{true};
 ghost use Prim.Native.Nat.{ℕ, _<_, _≤_};
 ghost use lib.ListN.{length, getD, drop};
 ghost use Rattle.wire.specs.Wire.{be16};
-ghost use Rattle.paper.specs.Frames as Frames;
 ghost use Rattle.paper.specs.Commands as Commands;
 ghost use Rattle.paper.specs.Streams.{hk};
 ghost use Rattle.paper.specs.Step.{queues};
+ghost use Rattle.frames.specs.declared.Kind.the-variants.{Command};
 ghost use Rattle.frames.specs.Meaning.{channel};
+ghost use Rattle.frames.specs.Meaning as Meaning;
 ghost use Rattle.command.specs.Meaning.{asked, meant};
 ghost use Rattle.state.specs.Layout.{stateBytes};
 ghost use Rattle.state.specs.Range.{Fit};
 ghost use Rattle.lent.specs.Told.{told};
-ghost use Rattle.state.specs.Told.{handled};
 ghost use Rattle.machine.specs.Stores.{Free};
-ghost use Rattle.machine.specs.Obeyed.{notedOn, erredOn, commandedOn, obeyedOn, performedOn};
+ghost use Rattle.machine.specs.Obeyed.{notedOn, erredOn, commandedOn, obeyedOn};
+ghost use Rattle.machine.specs.Called.{toldOn};
 
 // An accepted command is counted, and its sequence and id are kept.
 fn note(s: &mut [u8], side: Side, id: u16, sequence: u16)
@@ -98,7 +99,7 @@ fn decode(f: &[u8]) -> Decoded
 // The reply to a command.
 pub fn frame(s: &mut [u8], side: Side, f: &[u8]) -> u8
     requires { ⌜ (Fit (now s)) × (6 ≤ length (now f)) ⌝ }
-    ensures { λ r. ⌜ told r (now (s .exit)) ≡ handled (now (s .entry)) (Frames.command (channel side) (be16 (now (f .entry)) 2) (be16 (now (f .entry)) 4) (drop 6 (now (f .entry)))) (performedOn (notedOn (now (s .entry)) (channel side) (be16 (now (f .entry)) 2) (be16 (now (f .entry)) 4)) (Commands.decoded (be16 (now (f .entry)) 2) (drop 6 (now (f .entry))))) (λ n. erredOn (now (s .entry)) (channel side) n) ⌝ }
+    ensures { λ r. ⌜ told r (now (s .exit)) ≡ toldOn (now (s .entry)) (Meaning.meant (Command side) (now (f .entry))) 126 ⌝ }
 {
     let decoded = decode(f);
     let Decoded::Act(request) = decoded else {

@@ -15,18 +15,17 @@ use Rattle.paper.specs.Impact.{above}
 use Rattle.paper.specs.Streams.{acc-i}
 use Rattle.paper.specs.Controller.{Controller}
 use Rattle.paper.specs.Acts.{counted}
-use Rattle.paper.specs.Step.{crowded, reply}
+use Rattle.paper.specs.Step.{holds, crowded, reply}
 use Rattle.impact.specs.Window.{moved}
 use Rattle.state.specs.Layout.{mAt, nibbleAt, windowAt, placeAt, furtherAt, waitingAt, ringAt}
 use Rattle.state.specs.View.{view}
 use Rattle.state.specs.Range.{Fit}
-use Rattle.state.specs.Told.{replyTo}
 use Rattle.machine.specs.Ticked.{countedOn, takenOn}
 use Rattle.machine.proofs.Queue.{queue-length}
 use Rattle.machine.proofs.Ticks.{completes-view, counted-view, counted-fit, taken-view}
 
 -- 4 for a reading out of range, 7 for a completing tick without seven free slots
-pub tick-reply : (s : List ℕ) (r : ℕ) → replyTo s (tick r)
+pub tick-reply : (s : List ℕ) (r : ℕ) → reply (holds (view s)) (tick r) 126
     ≡ cond (ltb 4095 r) 4
     (cond ((eqb (getD s nibbleAt 0 % 8) 4 && eqb (be16 s furtherAt) 448) && crowded (view s) acc-i) 7 0)
 unfolding reply

@@ -1,12 +1,12 @@
 -- `answer::poll` meets its contract.
 -- Assumes nothing.
 use mathlib.Core.Path.{_≡_, _∙_}
-use borrow.Author.Tests.{ne-eqb}
+use borrow.Author.Tests.{le-ltb, ne-eqb}
 use Rattle.paper.specs.Step.{reply}
 use Rattle.state.specs.View.{view, piecesIn}
-use Rattle.state.specs.Told.{answered}
 use Rattle.state.proofs.Pieces.{length-pieces}
 use Rattle.machine.specs.Polled.{polledOn}
+use Rattle.machine.specs.Called.{actedOn, refusedOn, leftOn, toldOn, repliedOn}
 use borrow.Author.Needs.{needs}
 use Rattle.answer.proofs.poll.Statement.{statement}
 use Rattle.answer.proofs.poll.Tie as tie
@@ -15,8 +15,8 @@ slice-read-if1 : tie.Need-slice-read-if1
 slice-read-if1 c = search needs
 
 returns : tie.Need-returns
-unfolding answered reply view piecesIn
-returns c = rw (c .if1 .taken)
+unfolding repliedOn toldOn leftOn actedOn refusedOn reply view piecesIn
+returns c = rw (le-ltb _ 126 (c .before .before .before .before .pre .1), c .if1 .taken)
 
 show-requires : tie.Need-show-requires
 show-requires c κs = search needs
@@ -37,8 +37,8 @@ same-length-2 : tie.Need-same-length-2
 same-length-2 c = search needs
 
 returns-2 : tie.Need-returns-2
-unfolding answered reply view polledOn
-returns-2 c = rw (length-pieces, ne-eqb _ _ (c .before .before .before .before .before .before .before .before .before .before .before .before .before .before .if1 .left), c .before .before .raise .ensures, c .before .before .before .channel-at .ensures .0, c .before .before .before .before .before .before .before .drop-first .ensures, c .before .before .before .before .before .before .before .before .before .before .before .show .ensures)
+unfolding repliedOn toldOn leftOn actedOn refusedOn reply view polledOn
+returns-2 c = rw (le-ltb _ 126 (c .before .before .before .before .before .before .before .before .before .before .before .before .before .before .before .before .before .before .pre .1), length-pieces, ne-eqb _ _ (c .before .before .before .before .before .before .before .before .before .before .before .before .before .before .if1 .left), c .before .before .raise .ensures, c .before .before .before .channel-at .ensures .0, c .before .before .before .before .before .before .before .drop-first .ensures, c .before .before .before .before .before .before .before .before .before .before .before .show .ensures)
 
 pub poll-spec : {M : Type 1} → statement M
 poll-spec =

@@ -1,7 +1,10 @@
 -- `answer::status` meets its contract.
 -- Assumes nothing.
 use mathlib.Core.Path.{_≡_, _∙_}
+use borrow.Author.Tests.{le-ltb}
 use Rattle.paper.specs.Acts.{answer}
+use Rattle.paper.specs.Step.{reply}
+use Rattle.machine.specs.Called.{actedOn, leftOn, toldOn, repliedOn}
 use borrow.Author.Needs.{needs}
 use Rattle.answer.proofs.status.Statement.{statement}
 use Rattle.answer.proofs.status.Tie as tie
@@ -22,8 +25,8 @@ same-length : tie.Need-same-length
 same-length c = search needs
 
 returns : tie.Need-returns
-unfolding answer
-returns c = c .before .before .set16 .ensures ∙ rw (c .before .before .before .before .word .ensures)
+unfolding answer reply repliedOn toldOn leftOn actedOn
+returns c = rw (le-ltb _ 126 (c .before .before .before .before .before .before .before .before .before .before .pre .2), c .before .before .set16 .ensures, c .before .before .before .before .word .ensures)
 
 pub status-spec : {M : Type 1} → statement M
 status-spec =

@@ -6,7 +6,7 @@ use borrow.Author.Tests.{lt-ltb, le-ltb}
 use Rattle.wire.specs.Wire.{be16}
 use Rattle.paper.specs.Step.{reply}
 use Rattle.state.specs.View.{view, clockIn}
-use Rattle.state.specs.Told.{handled}
+use Rattle.machine.specs.Called.{actedOn, refusedOn, leftOn, toldOn}
 use Rattle.machine.proofs.Broadcasts.{heard-fit}
 use borrow.Author.Needs.{needs}
 use Rattle.broadcast.proofs.frame.Statement.{statement}
@@ -34,7 +34,7 @@ same-length : tie.Need-same-length
 same-length c = search needs
 
 returns : tie.Need-returns
-unfolding handled reply view clockIn
+unfolding toldOn leftOn actedOn refusedOn reply view clockIn
 returns c =
     let h : be16 (c .before .before .before .before .before .before .before .before .before .before .before .before .before .args .f .now) 2 / 4 < be16 (c .before .before .before .before .before .before .before .before .before .before .before .before .before .args .s .now) 0 / 4 = rw (c .before .before .before .before .before .before .before .before .before .seconds .ensures .0, c .before .before .before .before .before .before .before .before .before .before .get16 .ensures, c .before .before .before .before .before .before .seconds2 .ensures .0, c .before .before .before .before .before .before .before .get162 .ensures) at (c .before .before .before .before .before .if1 .taken) in
     rw (lt-ltb _ _ h, c .before .before .raise .ensures, c .before .before .before .channel-at .ensures .0)
@@ -49,7 +49,7 @@ same-length-2 : tie.Need-same-length-2
 same-length-2 c = search needs
 
 returns-2 : tie.Need-returns-2
-unfolding handled reply view clockIn
+unfolding toldOn leftOn actedOn refusedOn reply view clockIn
 returns-2 c =
     let h : be16 (c .before .before .before .before .before .before .before .before .before .before .before .before .before .before .before .before .args .s .now) 0 / 4 ≤ be16 (c .before .before .before .before .before .before .before .before .before .before .before .before .before .before .before .before .args .f .now) 2 / 4 = rw (c .before .before .before .before .before .before .before .before .before .before .before .before .seconds .ensures .0, c .before .before .before .before .before .before .before .before .before .before .before .before .before .get16 .ensures, c .before .before .before .before .before .before .before .before .before .seconds2 .ensures .0, c .before .before .before .before .before .before .before .before .before .before .get162 .ensures) at (c .before .before .before .before .before .before .before .before .if1 .left) in
     rw (le-ltb _ _ h, c .before .before .move-on .ensures, c .before .before .before .before .before .before .hear .ensures)

@@ -13,7 +13,7 @@ use mathlib.Core.List.{List}
 use Prim.Native.Nat.{ℕ}
 use Rattle.state.specs.Range.{inRange, fit}
 use Rattle.state.proofs.Ranges.{fit-true}
-use Rattle.machine.specs.Called.{repliedOn, stepOf}
+use Rattle.machine.specs.Called.{leftOn, toldOn, repliedOn, stepOf}
 use borrow.Author.Needs.{needs}
 use Rattle.controller.proofs.frame.Statement.{statement}
 use Rattle.controller.proofs.frame.Tie as tie
@@ -40,7 +40,7 @@ same-length-2 : tie.Need-same-length-2
 same-length-2 c = search needs
 
 returns-3 : tie.Need-returns-3
-unfolding stepOf fit repliedOn reply
+unfolding stepOf fit repliedOn toldOn leftOn reply
 returns-3 c = rw (le-leb _ _ (c .before .before .before .before .if1 .left), sym (c .before .before .in-range .ensures) ∙ not-false (c .before .before .in-range .result) (c .before .if2 .left), lt-ltb _ _ (c .if3 .taken)) (ap (λ (l : List ℕ). res 8 (c .before .before .before .before .before .before .before .before .args .out .now) l) (short-stays (c .before .before .before .before .before .before .before .before .args .s .now) (frameOf (c .before .before .before .before .before .before .before .before .args .f .now))))
 
 parse-requires : tie.Need-parse-requires

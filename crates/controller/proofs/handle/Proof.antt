@@ -3,11 +3,11 @@
 use mathlib.Core.Path.{_≡_, refl, _∙_}
 use native.Mathlib.Omega.{arith}
 use lib.ListN.{length, drop, length-drop}
-use Rattle.wire.specs.Wire.{be16}
-use Rattle.paper.specs.Frames.{tick, sample, byte}
+use Rattle.paper.specs.Frames.{analogue, faulty}
 use Rattle.paper.specs.Acts.{answer}
-use Rattle.machine.specs.Called.{actedOn, refusedOn}
-use Rattle.machine.proofs.Joins.{quiet, broadcast-joins, command-joins, poll-joins, status-joins, analogue-joins, faulty-joins, housed-bytes}
+use Rattle.paper.specs.Step.{reply}
+use Rattle.machine.specs.Called.{actedOn, refusedOn, leftOn, toldOn}
+use Rattle.machine.proofs.Joins.{quiet, housed-bytes}
 use borrow.Author.Needs.{needs}
 use Rattle.controller.proofs.handle.Statement.{statement}
 use Rattle.controller.proofs.handle.Tie as tie
@@ -66,31 +66,29 @@ same-length : tie.Need-same-length
 same-length c = search needs
 
 returns : tie.Need-returns
-unfolding actedOn
-returns c = rw (c .before .before .before .before .before .k .given .1) (broadcast-joins (c .before .before .before .before .before .before .before .before .before .before .args .s .now) (c .before .before .before .before .before .before .before .before .before .before .args .out .now) (c .before .before .before .before .before .before .before .before .before .before .pre .2) _ _ _ _ _ _ _ (c .before .before .frame .ensures))
+unfolding answer
+returns c = rw (c .before .before .before .before .before .k .given .1) (quiet (c .before .before .before .before .before .before .before .before .before .before .args .s .now) (c .before .before .before .before .before .before .before .before .before .before .args .out .now) (c .before .before .before .before .before .before .before .before .before .before .pre .2) _ refl _ _ (c .before .before .frame .ensures))
 
 same-length-2 : tie.Need-same-length-2
 same-length-2 c = search needs
 
 returns-2 : tie.Need-returns-2
-unfolding actedOn
-returns-2 c = rw (c .before .before .before .before .before .k2 .given .1) (command-joins (c .before .before .before .before .before .before .before .before .before .before .args .s .now) (c .before .before .before .before .before .before .before .before .before .before .args .out .now) (c .before .before .before .before .before .before .before .before .before .before .pre .2) _ _ _ _ _ _ (c .before .before .frame2 .ensures))
+unfolding answer
+returns-2 c = rw (c .before .before .before .before .before .k2 .given .1) (quiet (c .before .before .before .before .before .before .before .before .before .before .args .s .now) (c .before .before .before .before .before .before .before .before .before .before .args .out .now) (c .before .before .before .before .before .before .before .before .before .before .pre .2) _ refl _ _ (c .before .before .frame2 .ensures))
 
 same-length-3 : tie.Need-same-length-3
 same-length-3 c = search needs
 
 returns-3 : tie.Need-returns-3
-unfolding actedOn answer refusedOn
-returns-3 c =
-    rw (c .before .before .before .before .enum-told .given .1) (quiet (c .before .before .before .before .before .before .before .before .before .args .s .now) (c .before .before .before .before .before .before .before .before .before .args .out .now) (c .before .before .before .before .before .before .before .before .before .pre .2) (tick (be16 (c .before .before .before .before .before .before .before .before .before .args .f .now) 1)) refl (λ n. refl) _ _ (c .before .before .frame3 .ensures))
+unfolding answer
+returns-3 c = rw (c .before .before .before .before .enum-told .given .1) (quiet (c .before .before .before .before .before .before .before .before .before .args .s .now) (c .before .before .before .before .before .before .before .before .before .args .out .now) (c .before .before .before .before .before .before .before .before .before .pre .2) _ refl _ _ (c .before .before .frame3 .ensures))
 
 same-length-4 : tie.Need-same-length-4
 same-length-4 c = search needs
 
 returns-4 : tie.Need-returns-4
-unfolding actedOn answer refusedOn
-returns-4 c =
-    rw (c .before .before .before .before .enum-told2 .given .1) (quiet (c .before .before .before .before .before .before .before .before .before .args .s .now) (c .before .before .before .before .before .before .before .before .before .args .out .now) (c .before .before .before .before .before .before .before .before .before .pre .2) (sample (byte (c .before .before .before .before .before .before .before .before .before .args .f .now) 1) (drop 2 (c .before .before .before .before .before .before .before .before .before .args .f .now))) refl (λ n. refl) _ _ (c .before .before .frame4 .ensures))
+unfolding answer
+returns-4 c = rw (c .before .before .before .before .enum-told2 .given .1) (quiet (c .before .before .before .before .before .before .before .before .before .args .s .now) (c .before .before .before .before .before .before .before .before .before .args .out .now) (c .before .before .before .before .before .before .before .before .before .pre .2) _ refl _ _ (c .before .before .frame4 .ensures))
 
 same-length-5 : tie.Need-same-length-5
 same-length-5 c = search needs
@@ -99,8 +97,7 @@ same-length-6 : tie.Need-same-length-6
 same-length-6 c = search needs
 
 returns-5 : tie.Need-returns-5
-unfolding actedOn
-returns-5 c = rw (c .before .before .before .before .before .before .before .before .k3 .given .1) (c .before .before .before .before .poll .ensures ∙ poll-joins (c .before .before .before .before .before .before .before .before .before .before .before .before .before .args .s .now) (c .before .before .before .before .before .before .before .before .before .before .before .before .before .args .out .now) (c .before .before .before .before .before .before .before .before .before .before .before .before .before .pre .2) _)
+returns-5 c = rw (c .before .before .before .before .before .before .before .before .k3 .given .1) (c .before .before .before .before .poll .ensures)
 
 same-length-7 : tie.Need-same-length-7
 same-length-7 c = search needs
@@ -109,20 +106,22 @@ same-length-8 : tie.Need-same-length-8
 same-length-8 c = search needs
 
 returns-6 : tie.Need-returns-6
-returns-6 c = rw (c .before .before .before .before .before .before .k4 .given .1, c .before .before .status .ensures) (status-joins (c .before .before .before .before .before .before .before .before .before .before .before .args .s .now) (c .before .before .before .before .before .before .before .before .before .before .before .args .out .now) (c .before .before .before .before .before .before .before .before .before .before .before .pre .2) _ _ _)
+returns-6 c = rw (c .before .before .before .before .before .before .k4 .given .1) (c .before .before .status .ensures)
 
 same-length-9 : tie.Need-same-length-9
 same-length-9 c = search needs
 
 returns-7 : tie.Need-returns-7
+unfolding answer reply toldOn leftOn actedOn
 returns-7 c =
     let f = c .before .before .before .before .before .before .before .before .before .args .f .now in
     let long : length f ≡ 59 = rw (c .before .before .before .before .enum-told3 .given .1) at (c .before .before .before .before .before .before .before .before .before .pre .1) in
     let rest : length (drop 1 f) ≡ 58 = length-drop 1 f ∙ omega (arith, long) in
-    rw (c .before .before .before .before .enum-told3 .given .1, c .before .before .house .ensures, housed-bytes f (omega (arith, rest))) (analogue-joins (c .before .before .before .before .before .before .before .before .before .args .s .now) (c .before .before .before .before .before .before .before .before .before .args .out .now) (c .before .before .before .before .before .before .before .before .before .pre .2) (drop 1 f) rest)
+    rw (c .before .before .before .before .enum-told3 .given .1, c .before .before .house .ensures, housed-bytes f (omega (arith, rest))) (quiet (c .before .before .before .before .before .before .before .before .before .args .s .now) (c .before .before .before .before .before .before .before .before .before .args .out .now) (c .before .before .before .before .before .before .before .before .before .pre .2) (analogue (drop 1 f)) refl _ _ refl)
 
 returns-8 : tie.Need-returns-8
-returns-8 c = rw (c .enum-told4 .given .1) (faulty-joins (c .before .before .before .before .before .args .s .now) (c .before .before .before .before .before .args .out .now) (c .before .before .before .before .before .pre .2))
+unfolding answer reply toldOn leftOn refusedOn
+returns-8 c = rw (c .enum-told4 .given .1) (quiet (c .before .before .before .before .before .args .s .now) (c .before .before .before .before .before .args .out .now) (c .before .before .before .before .before .pre .2) faulty refl _ _ refl)
 
 pub handle-spec : {M : Type 1} → statement M
 handle-spec =

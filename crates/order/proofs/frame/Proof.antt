@@ -9,7 +9,7 @@ use Rattle.paper.specs.Frames.{Channel}
 use Rattle.paper.specs.Step.{crowded, queues}
 use Rattle.frames.specs.Meaning.{channel}
 use Rattle.command.specs.Meaning.{asked, meant}
-use Rattle.machine.specs.Obeyed.{notedOn, erredOn, performedOn}
+use Rattle.machine.specs.Obeyed.{notedOn, performedOn}
 use Rattle.machine.proofs.Counts.{noted-fit}
 use Rattle.order.proofs.Judged.{refuses, crowds, takes, noted-waits}
 use mathlib.Core.Path.{_≡_, sym, ap, _∙_}
@@ -17,8 +17,6 @@ use Prim.Native.Nat.{ℕ, _-_, _<_}
 use lib.ListN.{getD, drop}
 use Rattle.wire.specs.Wire.{be16}
 use Rattle.paper.specs.Commands as Commands
-use Rattle.command.specs.Meaning.{meant}
-use Rattle.order.proofs.Judged.{refuses, crowds, takes}
 use Rattle.paper.specs.Streams.{hk}
 use Rattle.state.specs.View.{view}
 use Rattle.machine.proofs.Sent.{free-room}
@@ -52,7 +50,7 @@ returns c =
     let n : ℕ = c .before .before .before .before .before .enum-told .given .0 .0 in
     let said : meant (c .before .before .before .before .before .before .before .decode .result) ≡ Commands.refusal n = ap meant (c .before .before .before .before .before .enum-told .given .1) in
     let r : c .before .before .before .before .refusal .result ≡ n = c .before .before .before .before .refusal .ensures ∙ ap Commands.refusedWith said in
-    rw (c .before .before .err .ensures, r) (refuses s side (be16 f 2) (be16 f 4) (drop 6 f) (performedOn (notedOn s side (be16 f 2) (be16 f 4)) (Commands.decoded (be16 f 2) (drop 6 f))) (λ m. erredOn s side m) n (sym (c .before .before .before .before .before .before .before .decode .ensures .0) ∙ said))
+    rw (c .before .before .err .ensures, r) (refuses s side (be16 f 2) (be16 f 4) (drop 6 f) n (sym (c .before .before .before .before .before .before .before .decode .ensures .0) ∙ said))
 
 queues-packet-requires : tie.Need-queues-packet-requires
 queues-packet-requires c κs = search needs
@@ -74,7 +72,7 @@ returns-2 c =
     let q = asked (c .before .before .before .before .before .before .before .before .before .decoded .given .0 .0) in
     let said : meant (c .before .before .before .before .before .before .before .before .before .before .before .decode .result) ≡ Commands.request q = ap meant (c .before .before .before .before .before .before .before .before .before .decoded .given .1) in
     let t : (queues (Commands.request q) && crowded (view s) hk) ≡ true = rw (c .before .before .before .before .before .before .before .queues-packet .ensures, c .before .before .before .before .before .crowded .ensures) at (c .before .before .before .before .if1 .taken) in
-    rw (c .before .before .err2 .ensures) (crowds s side (be16 f 2) (be16 f 4) (drop 6 f) (performedOn (notedOn s side (be16 f 2) (be16 f 4)) (Commands.decoded (be16 f 2) (drop 6 f))) (λ m. erredOn s side m) q (sym (c .before .before .before .before .before .before .before .before .before .before .before .decode .ensures .0) ∙ said) t)
+    rw (c .before .before .err2 .ensures) (crowds s side (be16 f 2) (be16 f 4) (drop 6 f) q (sym (c .before .before .before .before .before .before .before .before .before .before .before .decode .ensures .0) ∙ said) t)
 
 get16-requires : tie.Need-get16-requires
 get16-requires c κs = search needs
@@ -107,7 +105,7 @@ returns-3 c =
     let e : Commands.decoded (be16 f 2) (drop 6 f) ≡ Commands.request q = sym (c .before .before .before .before .before .before .before .before .before .before .before .before .before .before .before .before .before .decode .ensures .0) ∙ said in
     let t : (queues (Commands.request q) && crowded (view s) hk) ≡ false = rw (c .before .before .before .before .before .before .before .before .before .before .before .before .before .queues-packet .ensures, c .before .before .before .before .before .before .before .before .before .before .before .crowded .ensures) at (c .before .before .before .before .before .before .before .before .before .before .if1 .left) in
     let act : c .before .before .obey .last .0 ≡ performedOn (notedOn s side (be16 f 2) (be16 f 4)) (Commands.decoded (be16 f 2) (drop 6 f)) = c .before .before .obey .ensures ∙ rw (c .before .before .before .before .before .before .note .ensures, c .before .before .before .before .before .before .before .before .get16 .ensures, c .before .before .before .before .before .before .before .get162 .ensures, e) in
-    rw act (takes s side (be16 f 2) (be16 f 4) (drop 6 f) (performedOn (notedOn s side (be16 f 2) (be16 f 4)) (Commands.decoded (be16 f 2) (drop 6 f))) (λ m. erredOn s side m) q e t)
+    rw act (takes s side (be16 f 2) (be16 f 4) (drop 6 f) q e t)
 
 pub frame-spec : {M : Type 1} → statement M
 frame-spec =
