@@ -15,7 +15,7 @@ use Rattle.wire.specs.Wire.{be16, bytes16, part, put}
 use Rattle.wire.proofs.Runs.{getD-part, length-put}
 use Rattle.paper.specs.Streams.{pieces, listed, carried}
 use Rattle.paper.specs.Status.{bit}
-use Rattle.paper.specs.Reader.{distance, placed, all99, sound, wellFormed, packetOf}
+use Rattle.paper.specs.Reader.{distance, placed, packet, wellFormed, packetOf, all99, sound, understood, readerStep}
 use Rattle.lent.specs.Told.{Res, res}
 use Rattle.paper.proofs.Table.{Carried, carried-rules}
 use Rattle.track.specs.declared.Track.{Track}
@@ -28,12 +28,11 @@ use Rattle.track.proofs.Only.{only}
 use Rattle.shelf.specs.Layout.{markAt, readerMark, placeAt, gatherAt, pieceAt, streams, readerBytes}
 use Rattle.shelf.specs.View.{lastIn, placeIn, runsIn}
 use Rattle.shelf.specs.Range.{Fit, fit}
-use Rattle.shelf.specs.Received.{recordedOn, gathersOn, readOf}
+use Rattle.shelf.specs.Received.{recordedOn, gathersOn, understoodOn, receivedOn, understoodTo, handsTo, readOf}
 use Rattle.shelf.specs.Fresh.{zeros, freshOn, startedOn}
-use Rattle.shelf.specs.Formed.{handsTo, gathersTo, movesTo, arrivesTo, arrivedTo, understoodTo, formed}
 use Rattle.shelf.proofs.Ranges.{fit-true}
 use Rattle.shelf.proofs.Packets.{long-enough}
-use Rattle.shelf.proofs.Formed.{read-formed}
+use Rattle.shelf.proofs.Formed.{gathersTo, movesTo, arrivesTo, arrived-formed}
 
 -- ---- fill bytes
 
@@ -142,7 +141,7 @@ module _ (s : List ℕ) (t : ℕ) (c : carried t ≡ true) (count : ℕ) (small 
   below : place < pieces t
   below = mod-lt (placeIn s t + d) (ok .some)
 
-  module _ (x o : List ℕ) where
+  module _ (fits : Fit s) (x : List ℕ) (sized : length x ≡ 118) (o : List ℕ) where
     -- the record anew
     abbrev pub noted : List ℕ → Track → List ℕ
     noted y u = recordedOn y t (u .last) (u .place) (bit (u .running))
@@ -187,25 +186,24 @@ module _ (s : List ℕ) (t : ℕ) (c : carried t ≡ true) (count : ℕ) (small 
           same _ (right-finished found (pieces t) count d place refl refl ok below (eqb-false d 0 p) q (eqb-true place (pieces t - 1) e)) _
           (gathered (eqb place 0) goesOn q (eqb place (pieces t - 1)) ∙ rw e)
 
-      move-stores : (k : Move) → m .step ≡ k → stores k (m .track) ≡ arrivedTo s t count x o
-      unfolding arrivedTo
-      move-stores k e = sym (decided _ _ _ refl refl refl ∙ ap (λ (j : Move). stores j (m .track)) e)
+      move-stores : (k : Move) → m .step ≡ k → stores k (m .track) ≡ understoodTo s (packet t count x) o
+      move-stores k e = sym (arrived-formed s fits t c count x sized o ∙ decided _ _ _ refl refl refl ∙ ap (λ (j : Move). stores j (m .track)) e)
 
       -- what each arm of the code leaves
-      pub repeat-arm : m .step ≡ Repeat → res 22 o s ≡ arrivedTo s t count x o
+      pub repeat-arm : m .step ≡ Repeat → res 22 o s ≡ understoodTo s (packet t count x) o
       repeat-arm = move-stores Repeat
 
-      pub dropped-arm : m .step ≡ Dropped → (z : List ℕ) → z ≡ noted s (m .track) → res 0 o z ≡ arrivedTo s t count x o
+      pub dropped-arm : m .step ≡ Dropped → (z : List ℕ) → z ≡ noted s (m .track) → res 0 o z ≡ understoodTo s (packet t count x) o
       dropped-arm e z h = ap (res 0 o) h ∙ move-stores Dropped e
 
       both-stores : (y z : List ℕ) → y ≡ kept (m .track) → z ≡ noted y (m .track) → z ≡ noted (kept (m .track)) (m .track)
       both-stores y z g h = h ∙ ap (λ (v : List ℕ). noted v (m .track)) g
 
-      pub kept-arm : m .step ≡ Kept → (y z : List ℕ) → y ≡ kept (m .track) → z ≡ noted y (m .track) → res 0 o z ≡ arrivedTo s t count x o
+      pub kept-arm : m .step ≡ Kept → (y z : List ℕ) → y ≡ kept (m .track) → z ≡ noted y (m .track) → res 0 o z ≡ understoodTo s (packet t count x) o
       kept-arm e y z g h = ap (res 0 o) (both-stores y z g h) ∙ move-stores Kept e
 
       pub finished-arm : m .step ≡ Finished → (y z : List ℕ) → y ≡ kept (m .track) → z ≡ noted y (m .track) → (w : Res) → w ≡ handsTo z t o
-          → w ≡ arrivedTo s t count x o
+          → w ≡ understoodTo s (packet t count x) o
       finished-arm e y z g h w i = i ∙ ap (λ (v : List ℕ). handsTo v t o) (both-stores y z g h) ∙ move-stores Finished e
 
 -- ---- the tests of a call
@@ -213,13 +211,13 @@ module _ (s : List ℕ) (t : ℕ) (c : carried t ≡ true) (count : ℕ) (small 
 -- the code's tests in their order, each with what is left where it is the first that applies
 module _ (s f o : List ℕ) where
   pub too-short : length s < readerBytes → res 25 o s ≡ readOf s f o
-  unfolding formed fit
-  too-short h = sym (read-formed s f o ∙ rw (lt-leb _ _ h))
+  unfolding readOf fit
+  too-short h = rw (lt-leb _ _ h)
 
   module _ (w : readerBytes ≤ length s) where
     pub no-reader : eqb (be16 s markAt) readerMark ≡ false → res 25 o s ≡ readOf s f o
-    unfolding formed fit
-    no-reader h = sym (read-formed s f o ∙ rw (le-leb _ _ w, h))
+    unfolding readOf fit
+    no-reader h = rw (le-leb _ _ w, h)
 
     module _ (h : eqb (be16 s markAt) readerMark ≡ true) where
       fits : fit s ≡ true
@@ -230,16 +228,16 @@ module _ (s f o : List ℕ) where
       a-reader = fit-true s fits
 
       pub no-room : length o < 776 → res 24 o s ≡ readOf s f o
-      unfolding formed
-      no-room l = sym (read-formed s f o ∙ rw (fits, lt-ltb _ _ l))
+      unfolding readOf receivedOn readerStep
+      no-room l = rw (fits, lt-ltb _ _ l)
 
       module _ (l : 776 ≤ length o) where
         known : readOf s f o ≡ understoodTo s (packetOf f) o
-        unfolding formed
-        known = read-formed s f o ∙ rw (fits, le-ltb _ _ l)
+        unfolding readOf receivedOn readerStep
+        known = rw (fits, le-ltb _ _ l)
 
         pub no-packet : wellFormed f ≡ false → res 20 o s ≡ readOf s f o
-        unfolding packetOf understoodTo
+        unfolding packetOf understood understoodOn
         no-packet e = sym (known ∙ rw e)
 
         module _ (e : wellFormed f ≡ true) where
@@ -247,9 +245,9 @@ module _ (s f o : List ℕ) where
           long = long-enough f e
 
           pub not-carried : carried (be16 f 6 % 16) ≡ false → res 21 o s ≡ readOf s f o
-          unfolding packetOf understoodTo
+          unfolding packetOf understood understoodOn
           not-carried c = sym (known ∙ rw (e, c))
 
-          pub arrival : carried (be16 f 6 % 16) ≡ true → (r : Res) → r ≡ arrivedTo s (be16 f 6 % 16) (be16 f 6 / 16) (drop 8 f) o → r ≡ readOf s f o
-          unfolding packetOf understoodTo
+          pub arrival : carried (be16 f 6 % 16) ≡ true → (r : Res) → r ≡ understoodTo s (packet (be16 f 6 % 16) (be16 f 6 / 16) (drop 8 f)) o → r ≡ readOf s f o
+          unfolding packetOf
           arrival c r q = q ∙ sym (known ∙ rw (e, c))

@@ -19,8 +19,7 @@ ghost use Rattle.lent.specs.Told.{told, res};
 ghost use Rattle.shelf.specs.Layout.{markAt, readerMark, gatherAt, readerBytes};
 ghost use Rattle.shelf.specs.Range as Range;
 ghost use Rattle.shelf.specs.Fresh.{freshOn, startOf};
-ghost use Rattle.shelf.specs.Received.{recordedOn, readOf};
-ghost use Rattle.shelf.specs.Formed.{handsTo, arrivedTo};
+ghost use Rattle.shelf.specs.Received.{recordedOn, understoodTo, handsTo, readOf};
 
 // Whether lent bytes begin with the reader's mark.
 fn is_reader(s: &[u8]) -> bool
@@ -149,7 +148,7 @@ fn hand_out(s: &[u8], stream: u8, out: &mut [u8]) -> u8
 // The reply to a packet of a carried stream.
 fn receive(s: &mut [u8], stream: u8, count: u16, f: &[u8], out: &mut [u8]) -> u8
     requires { ⌜ (Range.Fit (now s)) × (Streams.carried stream ≡ true) × (count < 4096) × (length (now f) ≡ 126) × (776 ≤ length (now out)) ⌝ }
-    ensures { λ r. ⌜ res r (now (out .exit)) (now (s .exit)) ≡ arrivedTo (now (s .entry)) stream count (drop 8 (now (f .entry))) (now (out .entry)) ⌝ }
+    ensures { λ r. ⌜ res r (now (out .exit)) (now (s .exit)) ≡ understoodTo (now (s .entry)) (Reader.packet stream count (drop 8 (now (f .entry)))) (now (out .entry)) ⌝ }
 {
     let at = shelf::record_at(stream);
     let pieces = streams::pieces(stream) as u8;

@@ -1,4 +1,5 @@
--- One call said by bytes alone is the call whose reply and output are document 01's.
+-- What a packet of a carried stream comes to, with the reply and the output said by the bytes too, one step after the other, as code
+-- follows them: it is the call of Received, whose reply and output are document 01's.
 -- Assumes nothing.
 use mathlib.Core.Path.{_≡_, refl, sym, ap, _∙_, subst}
 use mathlib.Core.Bool.{Bool, true, false, cond, _&&_}
@@ -6,7 +7,7 @@ use mathlib.Core.List.{List, [], _∷_, _++_}
 use Prim.Native.Nat.{ℕ, suc, _+_, _-_, _*_, _<_}
 use native.Mathlib.Nat.{mod-lt}
 use native.Mathlib.Omega.{arith}
-use lib.Dec.{eqb, ltb}
+use lib.Dec.{eqb}
 use lib.ListN.{length, getD, take, drop}
 use lib.Seq.{take-take}
 use borrow.Author.Tests.{ltb-true, eqb-true}
@@ -15,18 +16,40 @@ use Rattle.wire.proofs.Runs.{part-put-after}
 use Rattle.paper.specs.Streams.{pieces, listed, carried}
 use Rattle.paper.specs.Packets.{chunks, joined}
 use Rattle.paper.specs.Queue as Queue
-use Rattle.paper.specs.Reader.{Track, fresh, distance, placed, gathers, moves, arrives, arrive, Packet, packet, notCarried, noPacket, packetOf, sound, Reader, heard, received, understood, readerStep}
-use Rattle.lent.specs.Told.{res}
+use Rattle.paper.specs.Reader.{Track, fresh, distance, placed, gathers, moves, arrives, arrive, packet, sound, Reader, heard, received, understood}
+use Rattle.lent.specs.Told.{Res, res}
 use Rattle.paper.proofs.Packets.{joined-chunks}
 use Rattle.paper.proofs.Table.{Carried, carried-rules}
 use Rattle.shelf.specs.Layout.{recordAt, placeAt, gatherAt, pieceAt}
 use Rattle.shelf.specs.View.{lastIn, placeIn, runsIn, trackIn, readerIn}
-use Rattle.shelf.specs.Range.{Fit, fit}
-use Rattle.shelf.specs.Received.{recordOf, recordedOn, gathersOn, movesOn, arrivesOn, arrivedOn, understoodOn, receivedOn, toldOf, readOf}
-use Rattle.shelf.specs.Formed.{handsTo, gathersTo, movesTo, arrivesTo, arrivedTo, understoodTo, formed}
-use Rattle.shelf.proofs.Ranges.{both, fit-true}
+use Rattle.shelf.specs.Range.{Fit}
+use Rattle.shelf.specs.Received.{recordOf, recordedOn, gathersOn, movesOn, arrivesOn, arrivedOn, understoodOn, toldOf, understoodTo, handsTo}
+use Rattle.shelf.proofs.Ranges.{both}
 use Rattle.shelf.proofs.Gathered.{piece-snoc, Elsewhere, body-elsewhere, follows}
-use Rattle.shelf.proofs.Packets.{Shaped, shaped, Any}
+
+-- ---- by the bytes
+
+abbrev pub gathersTo : List ℕ → ℕ → Bool → ℕ → ℕ → List ℕ → List ℕ → Res
+gathersTo s t true count place x o = handsTo (gathersOn s t true count place x) t o
+gathersTo s t false count place x o = res 0 o (gathersOn s t false count place x)
+
+abbrev pub movesTo : List ℕ → ℕ → (anew goesOn atLast : Bool) → ℕ → ℕ → List ℕ → List ℕ → Res
+movesTo s t true goesOn atLast count place x o = gathersTo s t atLast count place x o
+movesTo s t false true atLast count place x o = gathersTo s t atLast count place x o
+movesTo s t false false atLast count place x o = res 0 o (recordedOn s t count place 0)
+
+abbrev pub arrivesTo : List ℕ → ℕ → Bool → ℕ → ℕ → List ℕ → List ℕ → Res
+arrivesTo s t true count d x o = res 22 o s
+arrivesTo s t false count d x o =
+    let place : ℕ = placed (pieces t) (placeIn s t) d in
+    movesTo s t (eqb place 0) (eqb d 1 && runsIn s t) (eqb place (pieces t - 1)) count place x o
+
+abbrev pub arrivedTo : List ℕ → ℕ → ℕ → List ℕ → List ℕ → Res
+arrivedTo s t count x o =
+    let d : ℕ = distance (lastIn s t) count in
+    arrivesTo s t (eqb d 0) count d x o
+
+-- ---- it is the same
 
 module _ (s : List ℕ) (f : Fit s) (t : ℕ) (c : carried t ≡ true) (count : ℕ) (x : List ℕ) (sized : length x ≡ 118) (o : List ℕ) where
   r : Carried t
@@ -119,9 +142,8 @@ module _ (s : List ℕ) (f : Fit s) (t : ℕ) (c : carried t ≡ true) (count : 
   arrives-formed d true = refl
   arrives-formed d false = moves-formed d _ _ _ refl refl refl
 
-  arrived-formed : toldOf (received (readerIn s) t (arrive (pieces t) (readerIn s t) count x)) o (arrivedOn s t count x)
-      ≡ arrivedTo s t count x o
-  unfolding arrivedOn arrive arrivedTo readerIn trackIn
+  pub arrived-formed : understoodTo s (packet t count x) o ≡ arrivedTo s t count x o
+  unfolding understood understoodOn arrivedOn arrive readerIn trackIn
   arrived-formed =
       subst
       (λ (k : Track (List ℕ)).
@@ -130,23 +152,3 @@ module _ (s : List ℕ) (f : Fit s) (t : ℕ) (c : carried t ≡ true) (count : 
     where
       own : readerIn s t ≡ trackIn s t
       own = ap (λ (b : Bool). cond b (trackIn s t) (fresh (pieces t))) c
-
-pub understood-formed : (s : List ℕ) → Fit s → (p : Packet) → Shaped Any p → (o : List ℕ)
-    → toldOf (understood (readerIn s) p) o (understoodOn s p) ≡ understoodTo s p o
-unfolding understood understoodOn understoodTo
-understood-formed s f (packet t count x) h o = arrived-formed s f t (h .0) count x (h .2) o
-understood-formed s f notCarried h o = refl
-understood-formed s f noPacket h o = refl
-
-pub read-formed : (s f o : List ℕ) → readOf s f o ≡ formed s f o
-unfolding readOf formed receivedOn readerStep
-read-formed s f o = at (fit s) refl (ltb (length o) 776)
-  where
-    at : (b : Bool) → fit s ≡ b → (w : Bool)
-        → cond b
-        (toldOf (cond w (heard 24 [] (readerIn s)) (understood (readerIn s) (packetOf f))) o (cond w s (understoodOn s (packetOf f))))
-        (res 25 o s)
-        ≡ cond b (cond w (res 24 o s) (understoodTo s (packetOf f) o)) (res 25 o s)
-    at true e true = refl
-    at true e false = understood-formed s (fit-true s e) (packetOf f) (shaped Any f tt) o
-    at false e w = refl

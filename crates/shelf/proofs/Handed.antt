@@ -19,11 +19,10 @@ use Rattle.lent.specs.Told.{Res, res}
 use Rattle.shelf.specs.Layout.{readerBytes, gatherAt, pieceAt}
 use Rattle.shelf.specs.View.{lastIn, placeIn, runsIn, readerIn}
 use Rattle.shelf.specs.Range.{Fit}
-use Rattle.shelf.specs.Received.{gathersOn, understoodOn, toldOf}
-use Rattle.shelf.specs.Formed.{handsTo, gathersTo, movesTo, arrivesTo, arrivedTo, understoodTo}
+use Rattle.shelf.specs.Received.{gathersOn, understoodTo, handsTo}
 use Rattle.shelf.proofs.Gathered.{Elsewhere, record-elsewhere, body-elsewhere}
-use Rattle.shelf.proofs.Packets.{Shaped, Any, long-enough}
-use Rattle.shelf.proofs.Formed.{understood-formed}
+use Rattle.shelf.proofs.Packets.{long-enough}
+use Rattle.shelf.proofs.Formed.{gathersTo, movesTo, arrivesTo, arrivedTo, arrived-formed}
 
 -- a reply and the bytes that came with it, of stream t
 abbrev pub Listed : ℕ → ℕ → List ℕ → Type 0
@@ -78,23 +77,16 @@ module _ (s : List ℕ) (w : readerBytes ≤ length s) (t : ℕ) (c : carried t 
       (omega (arith, mod-lt (placeIn s t + d) (ltb-true 0 (pieces t) c), r .few))
 
   arrived-listed : Listed t (arrivedTo s t count x [] .reply) (arrivedTo s t count x [] .out)
-  unfolding arrivedTo
   arrived-listed = arrives-listed (eqb (distance (lastIn s t) count) 0) (distance (lastIn s t) count)
 
 -- what the reader that the bytes hold hands out is what a call stores over nothing
-heard-listed : (s : List ℕ) → Fit s → (p : Packet) → Shaped Any p → (t : ℕ)
-    → Listed t (understoodTo s p [] .reply) (understoodTo s p [] .out)
-    → Listed t (understood (readerIn s) p .reply) (understood (readerIn s) p .out)
-heard-listed s f p h t l =
-    let e : toldOf (understood (readerIn s) p) [] (understoodOn s p) ≡ understoodTo s p [] = understood-formed s f p h [] in
-    subst (λ (v : List ℕ). Listed t (understood (readerIn s) p .reply) v) (alone (understood (readerIn s) p .out))
-    (subst (λ (x : Res). Listed t (x .reply) (x .out)) (sym e) l)
-
 packet-listed : (s : List ℕ) → Fit s → (t count : ℕ) (x : List ℕ) → carried t ≡ true → length x ≡ 118
     → Listed t (understood (readerIn s) (packet t count x) .reply) (understood (readerIn s) (packet t count x) .out)
-unfolding understoodTo
 packet-listed s f t count x c e =
-    heard-listed s f (packet t count x) (c, tt, e) t (arrived-listed s (f .whole) t c count x e)
+    let p : Packet = packet t count x in
+    let stored : understoodTo s p [] ≡ arrivedTo s t count x [] = arrived-formed s f t c count x e [] in
+    subst (λ (v : List ℕ). Listed t (understood (readerIn s) p .reply) v) (alone (understood (readerIn s) p .out))
+    (subst (λ (y : Res). Listed t (y .reply) (y .out)) (sym stored) (arrived-listed s (f .whole) t c count x e))
 
 not-carried-listed : (s : List ℕ) (t : ℕ) → Listed t (understood (readerIn s) notCarried .reply) (understood (readerIn s) notCarried .out)
 unfolding understood

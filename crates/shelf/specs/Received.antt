@@ -3,14 +3,14 @@
 -- Assumes nothing.
 use mathlib.Core.Bool.{Bool, true, false, cond, _&&_}
 use mathlib.Core.List.{List, [], _∷_}
-use Prim.Native.Nat.{ℕ, _-_, _/_, _%_}
+use Prim.Native.Nat.{ℕ, _-_, _*_, _/_, _%_}
 use lib.Dec.{eqb, ltb}
-use lib.ListN.{length, getD}
-use Rattle.wire.specs.Wire.{be16, put}
-use Rattle.paper.specs.Streams.{pieces}
-use Rattle.paper.specs.Reader.{distance, placed, Packet, packet, notCarried, noPacket, packetOf, Heard, readerStep}
+use lib.ListN.{length}
+use Rattle.wire.specs.Wire.{part, put}
+use Rattle.paper.specs.Streams.{pieces, listed}
+use Rattle.paper.specs.Reader.{distance, placed, Packet, packet, notCarried, noPacket, packetOf, sound, Heard, understood, readerStep}
 use Rattle.lent.specs.Told.{Res, res}
-use Rattle.shelf.specs.Layout.{recordAt, pieceAt}
+use Rattle.shelf.specs.Layout.{recordAt, gatherAt, pieceAt}
 use Rattle.shelf.specs.View.{lastIn, placeIn, runsIn, readerIn}
 use Rattle.shelf.specs.Range.{fit}
 
@@ -54,6 +54,16 @@ receivedOn s f room = cond (ltb room 776) s (understoodOn s (packetOf f))
 
 abbrev pub toldOf : Heard → List ℕ → List ℕ → Res
 toldOf h o s = res (h .reply) (put o 0 (h .out)) s
+
+-- what a packet comes to, where there is room
+abbrev pub understoodTo : List ℕ → Packet → List ℕ → Res
+understoodTo s p o = toldOf (understood (readerIn s) p) o (understoodOn s p)
+
+-- all pieces of stream t's packet stand in the bytes: "1 handed out", at its listed length; "23 finished but opening, closing or
+-- fill bytes are wrong"
+unfoldable pub handsTo : List ℕ → ℕ → List ℕ → Res
+handsTo s t o =
+    cond (sound t (part s (gatherAt t) (118 * pieces t))) (res 1 (put o 0 (part s (gatherAt t) (listed t))) s) (res 23 o s)
 
 -- "25 lent state unfit"; "bytes past what is handed out stay"
 unfoldable pub readOf : List ℕ → List ℕ → List ℕ → Res

@@ -4,7 +4,7 @@ use native.Mathlib.Omega.{arith}
 use mathlib.Core.Path.{sym, _∙_}
 use borrow.Author.Tests.{not-true, not-false}
 use Rattle.paper.proofs.Table.{carried-rules}
-use Rattle.shelf.specs.Formed.{handsTo}
+use Rattle.shelf.specs.Received.{handsTo}
 use borrow.Author.Needs.{needs}
 use Rattle.gather.proofs.hand_out.Statement.{statement}
 use Rattle.gather.proofs.hand_out.Tie as tie
