@@ -1,5 +1,6 @@
 -- Both programs: each takes lines of hexadecimal "the same way", and its machine answers each frame. Lines are those of `hexline`.
 -- Assumes nothing.
+use mathlib.Core.Path.{_≡_}
 use Prim.Native.Nat.{ℕ, _+_, _≤_, _<_}
 use mathlib.Core.List.{List}
 use lib.ListN.{take, drop}
@@ -35,6 +36,12 @@ reader = printed Reader
 -- what comes of a chunk from index `at` on, where the first `used` bytes of `out` are written and n characters of `line` are open
 abbrev pub toCome : Machine → (at n used : ℕ) (chunk line state out : List ℕ) → Talk
 toCome m at n used chunk line state out = talk (answerTo m) (take used out) (lineOf n line) state (drop at chunk)
+
+-- a turn r that began at `from`, with n characters open and `used` bytes written: what is to come from where it stopped, with the
+-- buffers that it left, is what was to come where it began
+abbrev pub GoesOn : Machine → (from n used : ℕ) → Turn → (chunk line state out line′ state′ out′ : List ℕ) → Type 0
+GoesOn m from n used r chunk line state out line′ state′ out′ =
+    toCome m (r .at) (r .n) (r .used) chunk line′ state′ out′ ≡ toCome m from n used chunk line state out
 
 -- the longest line is the reader's: two digits, a space, 776 bytes and an LF
 abbrev pub mostText : ℕ

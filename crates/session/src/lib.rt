@@ -9,7 +9,7 @@ ghost use Rattle.hexline.specs.Lines.{Buffers, lineOf, frameOf};
 ghost use Rattle.hexline.specs.Talk.{lastly};
 ghost use Rattle.session.specs.Bench as Bench;
 ghost use Rattle.session.specs.Reader as Reader;
-ghost use Rattle.session.specs.Programs.{mostText, answerTo, toCome, Within};
+ghost use Rattle.session.specs.Programs.{mostText, answerTo, GoesOn, Within};
 
 // Who answers: the controller in program bench, the reader in program reader.
 pub enum Machine {
@@ -167,7 +167,7 @@ fn one(
 ) -> Turn
     requires { ⌜ (from ≤ length (now chunk)) × (Buffers n (now line) (now frame)) × (used + mostText ≤ length (now out)) ⌝ }
     ensures { λ r. ⌜ Within from (length (now (chunk .entry))) used (length (now (out .entry))) r ⌝ }
-    ensures { λ r. ⌜ toCome machine (r .at) (r .n) (r .used) (now (chunk .entry)) (now (line .exit)) (now (state .exit)) (now (out .exit)) ≡ toCome machine from n used (now (chunk .entry)) (now (line .entry)) (now (state .entry)) (now (out .entry)) ⌝ }
+    ensures { λ r. ⌜ GoesOn machine from n used r (now (chunk .entry)) (now (line .entry)) (now (state .entry)) (now (out .entry)) (now (line .exit)) (now (state .exit)) (now (out .exit)) ⌝ }
 {
     let g = hexline::gather(chunk, from, n, line);
     let at = g.at;
@@ -198,7 +198,7 @@ pub fn fill(
 ) -> Turn
     requires { ⌜ (from ≤ length (now chunk)) × (Buffers n (now line) (now frame)) × (mostText ≤ length (now out)) ⌝ }
     ensures { λ r. ⌜ Within from (length (now (chunk .entry))) 0 (length (now (out .entry))) r ⌝ }
-    ensures { λ r. ⌜ toCome machine (r .at) (r .n) (r .used) (now (chunk .entry)) (now (line .exit)) (now (state .exit)) (now (out .exit)) ≡ toCome machine from n 0 (now (chunk .entry)) (now (line .entry)) (now (state .entry)) (now (out .entry)) ⌝ }
+    ensures { λ r. ⌜ GoesOn machine from n 0 r (now (chunk .entry)) (now (line .entry)) (now (state .entry)) (now (out .entry)) (now (line .exit)) (now (state .exit)) (now (out .exit)) ⌝ }
 {
     let mut at = from;
     let mut k = n;
