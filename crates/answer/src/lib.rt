@@ -60,7 +60,7 @@ pub fn poll(s: &mut [u8], side: Side, out: &mut [u8]) -> u8
     }
     show(s, side, out);
     slots::drop_first(s);
-    entry::raise(s, state::channel_at(TELEMETRY, side));
+    wire::raise16(s, state::channel_at(TELEMETRY, side));
     0
 }
 

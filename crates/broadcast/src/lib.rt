@@ -24,7 +24,7 @@ fn hear(s: &mut [u8], side: Side, f: &[u8])
     requires { ⌜ (Fit (now s)) × (length (now f) ≡ 8) ⌝ }
     ensures { λ _. ⌜ now (s .exit) ≡ heardOn (now (s .entry)) (channel side) (be16 (now (f .entry)) 2) (be16 (now (f .entry)) 4) (byte (now (f .entry)) 6) (byte (now (f .entry)) 7) ⌝ }
 {
-    entry::raise(s, state::channel_at(BROADCASTS, side));
+    wire::raise16(s, state::channel_at(BROADCASTS, side));
     let time = wire::get16(f, 2);
     let altitude = wire::get16(f, 4);
     let words = [
@@ -66,7 +66,7 @@ pub fn frame(s: &mut [u8], side: Side, f: &[u8]) -> u8
     ensures { λ r. ⌜ told r (now (s .exit)) ≡ toldOn (now (s .entry)) (meant (Broadcast side) (now (f .entry))) 126 ⌝ }
 {
     if clock::seconds(wire::get16(f, 2)) < clock::seconds(wire::get16(s, TIME)) {
-        entry::raise(s, state::channel_at(BROADCASTS, side));
+        wire::raise16(s, state::channel_at(BROADCASTS, side));
         return 5;
     }
     hear(s, side, f);

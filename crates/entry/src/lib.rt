@@ -1,25 +1,15 @@
-// Counts that are raised, and entries to a mode.
+// Entries to a mode.
 use state::ALTITUDE;
 use state::FLAG;
 use state::NIBBLE;
 use state::RING;
 use state::WINDOW;
 ghost use mathlib.Core.Path.{_≡_};
-ghost use mathlib.Core.List.{[], _∷_, _++_};
-ghost use Prim.Native.Nat.{_+_, _%_, _<_, _≤_};
-ghost use lib.ListN.{length, getD};
+ghost use Prim.Native.Nat.{_≤_};
+ghost use lib.ListN.{length};
 ghost use Rattle.wire.specs.Wire.{be16, put};
 ghost use Rattle.state.specs.Layout.{stateBytes, mAt, nibbleAt};
-ghost use Rattle.machine.specs.Entered.{raisedOn, emptiedOn, entryRun, enteredOn};
-
-// Raises a count of 16 bits, which goes from 65535 to 0 on purpose.
-pub fn raise(s: &mut [u8], at: usize)
-    requires { ⌜ at + 1 < length (now s) ⌝ }
-    ensures { λ _. ⌜ now (s .exit) ≡ raisedOn (now (s .entry)) at ⌝ }
-{
-    let count = wire::get16(s, at);
-    wire::set16(s, at, std::num::wrapping_add_u16(count, 1));
-}
+ghost use Rattle.machine.specs.Entered.{emptiedOn, entryRun, enteredOn};
 
 // Window and ring are emptied, and the impact flag is cleared.
 fn empty(s: &mut [u8])

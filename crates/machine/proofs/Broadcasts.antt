@@ -7,7 +7,7 @@ use Prim.Native.Nat.{ℕ, _+_, _≤_, _<_}
 use native.Mathlib.Omega.{arith}
 use lib.Dec.{leb}
 use lib.ListN.{length}
-use Rattle.wire.specs.Wire.{be16, bytes16, put}
+use Rattle.wire.specs.Wire.{be16, bytes16, put, raisedOn}
 use Rattle.wire.proofs.Runs.{length-put, getD-put-inside, be16-put-inside, be16-bytes16}
 use Rattle.clock.proofs.Numbers.{nibble-mode, nibble-locked, nibble-small}
 use Rattle.paper.specs.Frames.{Channel}
@@ -19,7 +19,7 @@ use Rattle.paper.specs.Step.{lateHeard}
 use Rattle.state.specs.Layout.{timeAt, mAt, broadcastsAt}
 use Rattle.state.specs.View.{clockIn, standingIn, impactIn, view}
 use Rattle.state.specs.Range.{Fit}
-use Rattle.machine.specs.Entered.{raisedOn, enteredOn}
+use Rattle.machine.specs.Entered.{enteredOn}
 use Rattle.machine.specs.Heard.{heardOn, seenIn, movedOn}
 use Rattle.machine.proofs.Same.{view-clocked, fit-clocked}
 use Rattle.machine.proofs.Entries.{entered-view, entered-fit, entered-length}

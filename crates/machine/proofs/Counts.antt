@@ -11,7 +11,7 @@ use native.Mathlib.Omega.{arith}
 use lib.Dec.{eqb}
 use lib.ListN.{length, getD}
 use borrow.Author.Tests.{eqb-true, eqb-false}
-use Rattle.wire.specs.Wire.{be16, bytes16, put}
+use Rattle.wire.specs.Wire.{be16, bytes16, put, raisedOn}
 use Rattle.wire.proofs.Runs.{length-put, getD-put-before, getD-put-inside, getD-put-after, be16-put-before, be16-put-after, be16-put-same, part-put-same}
 use Rattle.paper.specs.Frames.{Channel, cdmuA, cdmuB}
 use Rattle.paper.specs.Controller.{raised, raised8, raisedAt, Tallies, withPackets, withTelemetry, withCommands, withError, withLast, Controller, withTallies, withHoused}
@@ -22,7 +22,6 @@ use Rattle.state.specs.View.{talliesIn, piecesIn, view}
 use Rattle.state.specs.Range.{Fit}
 use Rattle.lent.proofs.Same.{Same, put-same, be16-same}
 use Rattle.state.proofs.Apart.{fit-same, clock-apart, standing-apart, impact-apart, tallies-apart, first-apart, waiting-apart, counts-apart, opened-apart, pieces-apart}
-use Rattle.machine.specs.Entered.{raisedOn}
 use Rattle.machine.specs.Obeyed.{notedOn, erredOn}
 use Rattle.machine.proofs.Same.{view-tallied, fit-tallied}
 

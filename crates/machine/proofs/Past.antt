@@ -11,7 +11,7 @@ use lib.Dec.{eqb, leb}
 use lib.ListN.{length, take, drop, getD, length-take, length-drop}
 use lib.Seq.{getD-drop, ext-getD}
 use borrow.Author.Tests.{eqb-true, leb-true, not-false}
-use Rattle.wire.specs.Wire.{be16, be24, bytes16, bytes24, part, put}
+use Rattle.wire.specs.Wire.{be16, be24, bytes16, bytes24, part, put, raisedOn}
 use Rattle.wire.proofs.Runs.{length-put, getD-put-after}
 use Rattle.impact.specs.Window.{windowOf, moved}
 use Rattle.paper.specs.Clock.{now, seconds, secondsOf, ticked}
@@ -37,7 +37,7 @@ use Rattle.lent.specs.Told.{Told, Res}
 use Rattle.state.proofs.Ranges.{fit-true}
 use Rattle.machine.specs.Stores.{slot, laid, queuedOn, droppedOn, Swept, sweep, shut, clearedOn}
 use Rattle.machine.specs.Built.{sentOn, housekeptOn, recordedOn, stampIn, fullOn, singleOn}
-use Rattle.machine.specs.Entered.{raisedOn, noRing, emptiedOn, entryRun, enteredOn}
+use Rattle.machine.specs.Entered.{noRing, emptiedOn, entryRun, enteredOn}
 use Rattle.machine.specs.Heard.{heardOn, seenIn, movedOn}
 use Rattle.machine.specs.Ticked.{countedOn, takenOn, declaredOn, detectedOn, watchedOn, completedOn, tickedOn}
 use Rattle.machine.specs.Sampled.{stampedOn, storedOn, keptOn, sampledOn}

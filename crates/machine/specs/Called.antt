@@ -6,7 +6,7 @@ use mathlib.Core.List.{List}
 use Prim.Native.Nat.{ℕ}
 use lib.Dec.{eqb, leb}
 use lib.ListN.{length}
-use Rattle.wire.specs.Wire.{put}
+use Rattle.wire.specs.Wire.{put, raisedOn}
 use Rattle.paper.specs.Frames.{Frame, broadcast, command, tick, sample, poll, status, analogue, faulty, frameOf}
 use Rattle.paper.specs.Commands.{decoded}
 use Rattle.paper.specs.Acts.{answer}
@@ -16,7 +16,6 @@ use Rattle.state.specs.View.{view}
 use Rattle.state.specs.Range.{fit}
 use Rattle.state.specs.Fresh.{startedOn}
 use Rattle.lent.specs.Told.{Told, told, Res, res}
-use Rattle.machine.specs.Entered.{raisedOn}
 use Rattle.machine.specs.Heard.{heardOn, movedOn}
 use Rattle.machine.specs.Ticked.{tickedOn}
 use Rattle.machine.specs.Sampled.{sampledOn}

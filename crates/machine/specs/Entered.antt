@@ -1,19 +1,14 @@
--- What raising a count and entering a mode do to the lent bytes.
+-- What entering a mode does to the lent bytes.
 -- Assumes nothing.
 use mathlib.Core.Bool.{Bool, cond}
 use mathlib.Core.List.{List, [], _∷_, _++_}
 use Prim.Native.Nat.{ℕ, _+_, _%_}
 use lib.Dec.{eqb}
 use lib.ListN.{getD, replicate}
-use Rattle.wire.specs.Wire.{be16, bytes16, bytes24, put}
+use Rattle.wire.specs.Wire.{bytes16, bytes24, put}
 use Rattle.paper.specs.Clock.{now}
-use Rattle.paper.specs.Controller.{raised}
 use Rattle.state.specs.Layout.{altitudeAt, nibbleAt, flagAt, windowAt, ringAt}
 use Rattle.state.specs.View.{clockIn}
-
--- a count of 16 bits goes up by one
-unfoldable pub raisedOn : List ℕ → ℕ → List ℕ
-raisedOn s at = put s at (bytes16 (raised (be16 s at)))
 
 -- 512 readings of zero
 unfoldable pub noRing : List ℕ

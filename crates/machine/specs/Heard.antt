@@ -3,14 +3,14 @@
 use mathlib.Core.Bool.{cond}
 use mathlib.Core.List.{List, [], _∷_, _++_}
 use Prim.Native.Nat.{ℕ}
-use Rattle.wire.specs.Wire.{be16, bytes16, put}
+use Rattle.wire.specs.Wire.{be16, bytes16, put, raisedOn}
 use Rattle.paper.specs.Frames.{Channel}
 use Rattle.paper.specs.Clock.{seconds}
 use Rattle.paper.specs.Mode.{Mode, nibble, same, ruled, Seen}
 use Rattle.paper.specs.Impact.{collects}
 use Rattle.state.specs.Layout.{timeAt, altitudeAt, furtherAt, broadcastsAt}
 use Rattle.state.specs.View.{standingIn, collectionOf}
-use Rattle.machine.specs.Entered.{raisedOn, enteredOn}
+use Rattle.machine.specs.Entered.{enteredOn}
 
 -- its count is raised, its words are stored, m is 0
 unfoldable pub heardOn : List ℕ → Channel → ℕ → ℕ → ℕ → ℕ → List ℕ

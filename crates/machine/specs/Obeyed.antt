@@ -3,7 +3,7 @@
 use mathlib.Core.List.{List, [], _∷_}
 use Prim.Native.Nat.{ℕ, _%_}
 use lib.ListN.{getD}
-use Rattle.wire.specs.Wire.{be16, bytes16, put}
+use Rattle.wire.specs.Wire.{be16, bytes16, put, raisedOn}
 use Rattle.paper.specs.Frames.{Channel}
 use Rattle.paper.specs.Clock.{seconds}
 use Rattle.paper.specs.Commands.{Request, clear, housekeeping, setMode, Decoded, request, refusal}
@@ -11,7 +11,7 @@ use Rattle.paper.specs.Controller.{raised8}
 use Rattle.state.specs.Layout.{timeAt, furtherAt, commandsAt, packetsAt, errorsAt, sequenceAt}
 use Rattle.machine.specs.Stores.{clearedOn}
 use Rattle.machine.specs.Built.{housekeptOn}
-use Rattle.machine.specs.Entered.{raisedOn, enteredOn}
+use Rattle.machine.specs.Entered.{enteredOn}
 
 -- counts, and the low bytes of sequence and id
 unfoldable pub notedOn : List ℕ → Channel → ℕ → ℕ → List ℕ

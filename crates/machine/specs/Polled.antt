@@ -2,10 +2,10 @@
 -- Assumes nothing.
 use mathlib.Core.List.{List}
 use Prim.Native.Nat.{ℕ}
+use Rattle.wire.specs.Wire.{raisedOn}
 use Rattle.paper.specs.Frames.{Channel}
 use Rattle.state.specs.Layout.{telemetryAt}
 use Rattle.machine.specs.Stores.{droppedOn}
-use Rattle.machine.specs.Entered.{raisedOn}
 
 -- the first piece is gone, and the channel's telemetry count is raised
 unfoldable pub polledOn : List ℕ → Channel → List ℕ

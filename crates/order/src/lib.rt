@@ -33,8 +33,8 @@ fn note(s: &mut [u8], side: Side, id: u16, sequence: u16)
     requires { ⌜ stateBytes ≤ length (now s) ⌝ }
     ensures { λ _. ⌜ now (s .exit) ≡ notedOn (now (s .entry)) (channel side) id sequence ⌝ }
 {
-    entry::raise(s, state::channel_at(PACKETS, side));
-    entry::raise(s, COMMANDS);
+    wire::raise16(s, state::channel_at(PACKETS, side));
+    wire::raise16(s, COMMANDS);
     let last = [wire::lo(sequence), wire::lo(id)];
     wire::copy_to(s, SEQUENCE, &last);
 }
@@ -45,7 +45,7 @@ fn err(s: &mut [u8], side: Side, reply: u8)
     ensures { λ _. ⌜ now (s .exit) ≡ erredOn (now (s .entry)) (channel side) reply ⌝ }
 {
     let errors = s[ERRORS];
-    entry::raise(s, state::channel_at(PACKETS, side));
+    wire::raise16(s, state::channel_at(PACKETS, side));
     let last = [std::num::wrapping_add_u8(errors, 1), reply];
     wire::copy_to(s, ERRORS, &last);
 }

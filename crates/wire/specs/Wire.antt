@@ -31,3 +31,7 @@ part s at k = take k (drop at s)
 -- a list with a run of bytes stored at an offset
 abbrev pub put : List ℕ → ℕ → List ℕ → List ℕ
 put d at v = take at d ++ v ++ drop (at + length v) d
+
+-- a number of 16 bits at an offset goes up by one, from 65535 to 0
+unfoldable pub raisedOn : List ℕ → ℕ → List ℕ
+raisedOn s at = put s at (bytes16 ((be16 s at + 1) % 65536))

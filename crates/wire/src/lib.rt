@@ -4,7 +4,7 @@ ghost use mathlib.Core.Path.{_≡_};
 ghost use mathlib.Core.List.{[], _∷_};
 ghost use Prim.Native.Nat.{_+_, _/_, _%_, _<_, _≤_};
 ghost use lib.ListN.{length, replicate};
-ghost use Rattle.wire.specs.Wire.{be16, be24, bytes16, bytes24, part, put};
+ghost use Rattle.wire.specs.Wire.{be16, be24, bytes16, bytes24, part, put, raisedOn};
 
 // A byte as a number of 16 bits; its bound is said, for sums with it.
 pub fn word(x: u8) -> u16
@@ -111,6 +111,15 @@ pub fn set24(s: &mut [u8], at: usize, v: u32)
     s[at] = top24(v);
     s[at + 1] = mid24(v);
     s[at + 2] = low24(v);
+}
+
+// Raises a number of 16 bits, which goes from 65535 to 0 on purpose.
+pub fn raise16(s: &mut [u8], at: usize)
+    requires { ⌜ at + 1 < length (now s) ⌝ }
+    ensures { λ _. ⌜ now (s .exit) ≡ raisedOn (now (s .entry)) at ⌝ }
+{
+    let count = get16(s, at);
+    set16(s, at, std::num::wrapping_add_u16(count, 1));
 }
 
 // d with all of s at an offset.

@@ -27,8 +27,8 @@ drop-first-requires c κs = search needs
 channel-at-requires : tie.Need-channel-at-requires
 channel-at-requires c κs = search needs
 
-raise-requires : tie.Need-raise-requires
-raise-requires c κs = search needs
+raise16-requires : tie.Need-raise16-requires
+raise16-requires c κs = search needs
 
 same-length : tie.Need-same-length
 same-length c = search needs
@@ -38,7 +38,7 @@ same-length-2 c = search needs
 
 returns-2 : tie.Need-returns-2
 unfolding repliedOn toldOn leftOn actedOn refusedOn reply view polledOn
-returns-2 c = rw (le-ltb _ 126 (c .before .before .before .before .before .before .before .before .before .before .before .before .before .before .before .before .before .before .pre .1), length-pieces, ne-eqb _ _ (c .before .before .before .before .before .before .before .before .before .before .before .before .before .before .if1 .left), c .before .before .raise .ensures, c .before .before .before .channel-at .ensures .0, c .before .before .before .before .before .before .before .drop-first .ensures, c .before .before .before .before .before .before .before .before .before .before .before .show .ensures)
+returns-2 c = rw (le-ltb _ 126 (c .before .before .before .before .before .before .before .before .before .before .before .before .before .before .before .before .before .before .pre .1), length-pieces, ne-eqb _ _ (c .before .before .before .before .before .before .before .before .before .before .before .before .before .before .if1 .left), c .before .before .raise16 .ensures, c .before .before .before .channel-at .ensures .0, c .before .before .before .before .before .before .before .drop-first .ensures, c .before .before .before .before .before .before .before .before .before .before .before .show .ensures)
 
 pub poll-spec : {M : Type 1} → statement M
 poll-spec =
@@ -49,7 +49,7 @@ poll-spec =
     show-requires
     drop-first-requires
     channel-at-requires
-    raise-requires
+    raise16-requires
     same-length
     same-length-2
     returns-2)

@@ -27,8 +27,8 @@ seconds-requires-2 c κs = search needs
 channel-at-requires : tie.Need-channel-at-requires
 channel-at-requires c κs = search needs
 
-raise-requires : tie.Need-raise-requires
-raise-requires c κs = search needs
+raise16-requires : tie.Need-raise16-requires
+raise16-requires c κs = search needs
 
 same-length : tie.Need-same-length
 same-length c = search needs
@@ -37,7 +37,7 @@ returns : tie.Need-returns
 unfolding toldOn leftOn actedOn refusedOn reply view clockIn
 returns c =
     let h : be16 (c .before .before .before .before .before .before .before .before .before .before .before .before .before .args .f .now) 2 / 4 < be16 (c .before .before .before .before .before .before .before .before .before .before .before .before .before .args .s .now) 0 / 4 = rw (c .before .before .before .before .before .before .before .before .before .seconds .ensures .0, c .before .before .before .before .before .before .before .before .before .before .get16 .ensures, c .before .before .before .before .before .before .seconds2 .ensures .0, c .before .before .before .before .before .before .before .get162 .ensures) at (c .before .before .before .before .before .if1 .taken) in
-    rw (lt-ltb _ _ h, c .before .before .raise .ensures, c .before .before .before .channel-at .ensures .0)
+    rw (lt-ltb _ _ h, c .before .before .raise16 .ensures, c .before .before .before .channel-at .ensures .0)
 
 hear-requires : tie.Need-hear-requires
 hear-requires c κs = search needs
@@ -63,7 +63,7 @@ frame-spec =
     get16-requires-2
     seconds-requires-2
     channel-at-requires
-    raise-requires
+    raise16-requires
     same-length
     returns
     hear-requires

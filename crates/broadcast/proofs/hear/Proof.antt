@@ -9,8 +9,8 @@ use Rattle.broadcast.proofs.hear.Tie as tie
 channel-at-requires : tie.Need-channel-at-requires
 channel-at-requires c κs = search needs
 
-raise-requires : tie.Need-raise-requires
-raise-requires c κs = search needs
+raise16-requires : tie.Need-raise16-requires
+raise16-requires c κs = search needs
 
 get16-requires : tie.Need-get16-requires
 get16-requires c κs = search needs
@@ -47,14 +47,14 @@ same-length c = search needs
 
 returns : tie.Need-returns
 unfolding heardOn
-returns c = c .before .before .copy-to .ensures ∙ rw (c .before .before .before .before .before .before .before .before .before .before .before .before .before .before .before .raise .ensures, c .before .before .before .before .before .before .before .before .before .before .before .before .before .before .before .before .channel-at .ensures .0, c .before .before .before .before .before .before .before .before .before .before .hi .ensures, c .before .before .before .before .before .before .before .before .before .lo .ensures, c .before .before .before .before .before .before .before .before .hi2 .ensures, c .before .before .before .before .before .before .before .lo2 .ensures, c .before .before .before .before .before .before .before .before .before .before .before .before .get16 .ensures, c .before .before .before .before .before .before .before .before .before .before .before .get162 .ensures)
+returns c = c .before .before .copy-to .ensures ∙ rw (c .before .before .before .before .before .before .before .before .before .before .before .before .before .before .before .raise16 .ensures, c .before .before .before .before .before .before .before .before .before .before .before .before .before .before .before .before .channel-at .ensures .0, c .before .before .before .before .before .before .before .before .before .before .hi .ensures, c .before .before .before .before .before .before .before .before .before .lo .ensures, c .before .before .before .before .before .before .before .before .hi2 .ensures, c .before .before .before .before .before .before .before .lo2 .ensures, c .before .before .before .before .before .before .before .before .before .before .before .before .get16 .ensures, c .before .before .before .before .before .before .before .before .before .before .before .get162 .ensures)
 
 pub hear-spec : {M : Type 1} → statement M
 hear-spec =
     tie.close
     (tie.spec
     channel-at-requires
-    raise-requires
+    raise16-requires
     get16-requires
     get16-requires-2
     hi-requires

@@ -12,8 +12,8 @@ slice-read-errors c = search needs
 channel-at-requires : tie.Need-channel-at-requires
 channel-at-requires c κs = search needs
 
-raise-requires : tie.Need-raise-requires
-raise-requires c κs = search needs
+raise16-requires : tie.Need-raise16-requires
+raise16-requires c κs = search needs
 
 wrapping-add-u8-requires : tie.Need-wrapping-add-u8-requires
 wrapping-add-u8-requires c κs = search needs
@@ -29,7 +29,7 @@ same-length c = search needs
 
 returns : tie.Need-returns
 unfolding erredOn
-returns c = c .before .before .copy-to .ensures ∙ rw (c .before .before .before .before .before .before .before .before .raise .ensures, c .before .before .before .before .before .before .before .before .before .channel-at .ensures .0, c .before .before .before .before .before .wrapping-add-u8 .ensures)
+returns c = c .before .before .copy-to .ensures ∙ rw (c .before .before .before .before .before .before .before .before .raise16 .ensures, c .before .before .before .before .before .before .before .before .before .channel-at .ensures .0, c .before .before .before .before .before .wrapping-add-u8 .ensures)
 
 pub err-spec : {M : Type 1} → statement M
 err-spec =
@@ -37,7 +37,7 @@ err-spec =
     (tie.spec
     slice-read-errors
     channel-at-requires
-    raise-requires
+    raise16-requires
     wrapping-add-u8-requires
     slice-aggregate-copy-to
     copy-to-requires

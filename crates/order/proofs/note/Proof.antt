@@ -9,11 +9,11 @@ use Rattle.order.proofs.note.Tie as tie
 channel-at-requires : tie.Need-channel-at-requires
 channel-at-requires c κs = search needs
 
-raise-requires : tie.Need-raise-requires
-raise-requires c κs = search needs
+raise16-requires : tie.Need-raise16-requires
+raise16-requires c κs = search needs
 
-raise-requires-2 : tie.Need-raise-requires-2
-raise-requires-2 c κs = search needs
+raise16-requires-2 : tie.Need-raise16-requires-2
+raise16-requires-2 c κs = search needs
 
 lo-requires : tie.Need-lo-requires
 lo-requires c κs = search needs
@@ -32,15 +32,15 @@ same-length c = search needs
 
 returns : tie.Need-returns
 unfolding notedOn
-returns c = c .before .before .copy-to .ensures ∙ rw (c .before .before .before .before .before .before .before .before .before .raise2 .ensures, c .before .before .before .before .before .before .before .before .before .before .before .before .before .raise .ensures, c .before .before .before .before .before .before .before .before .before .before .before .before .before .before .channel-at .ensures .0, c .before .before .before .before .before .before .lo .ensures, c .before .before .before .before .before .lo2 .ensures)
+returns c = c .before .before .copy-to .ensures ∙ rw (c .before .before .before .before .before .before .before .before .before .raise162 .ensures, c .before .before .before .before .before .before .before .before .before .before .before .before .before .raise16 .ensures, c .before .before .before .before .before .before .before .before .before .before .before .before .before .before .channel-at .ensures .0, c .before .before .before .before .before .before .lo .ensures, c .before .before .before .before .before .lo2 .ensures)
 
 pub note-spec : {M : Type 1} → statement M
 note-spec =
     tie.close
     (tie.spec
     channel-at-requires
-    raise-requires
-    raise-requires-2
+    raise16-requires
+    raise16-requires-2
     lo-requires
     lo-requires-2
     slice-aggregate-copy-to
