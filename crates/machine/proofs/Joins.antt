@@ -13,7 +13,7 @@ use Rattle.wire.specs.Wire.{put, part}
 use Rattle.paper.specs.Frames.{Frame}
 use Rattle.paper.specs.Acts.{answer}
 use Rattle.paper.specs.Step.{holds, reply, Count, ofBroadcasts, ofCommands, ofPolls, ofNone, countOf, change}
-use Rattle.lent.specs.Told.{Told, told, Res, res}
+use Rattle.lent.specs.Told.{Told, told, res}
 use Rattle.state.specs.View.{view}
 use Rattle.machine.specs.Called.{changedOn, refusedOn, toldOn, repliedOn}
 

@@ -14,7 +14,6 @@ use Rattle.paper.specs.Streams.{pieces, carried}
 use Rattle.paper.specs.Packets.{chunks, joined}
 use Rattle.paper.specs.Queue as Queue
 use Rattle.paper.specs.Reader.{Track, fresh, distance, placed, gathers, moves, arrives, arrive, Packet, packet, notCarried, noPacket, packetOf, sound, Reader, Heard, heard, received, understood, readerStep}
-use Rattle.lent.specs.Told.{res}
 use Rattle.lent.proofs.Same.{be16-same}
 use Rattle.paper.proofs.Table.{Carried, carried-rules}
 use Rattle.shelf.specs.Layout.{markAt, placeAt, gatherAt, pieceAt, readerBytes}

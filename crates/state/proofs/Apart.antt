@@ -2,7 +2,7 @@
 -- `..-same` says it of two lists that agree there, `..-apart` of a run that is stored before or after. Assumes nothing.
 use mathlib.Core.Path.{_≡_, refl, sym, ap, _∙_, subst, fun-ext}
 use mathlib.Core.Bool.{Bool, true, false, cond}
-use mathlib.Core.List.{List, [], _∷_, _++_, map}
+use mathlib.Core.List.{List, map}
 use mathlib.Core.Logic.{_⊎_, inl, inr, ⊎-elim}
 use Prim.{Dec, yes, no}
 use Prim.Native.Nat.{ℕ, zero, suc, _+_, _-_, _*_, _/_, _%_, _≤_, _<_}
@@ -12,13 +12,12 @@ use native.Mathlib.Omega.{arith}
 use lib.Dec.{eqb, leb, ltb}
 use lib.ListN.{length, getD}
 use borrow.Author.Tests.{ltb-true, lt-ltb, le-ltb}
-use Rattle.wire.specs.Wire.{be16, be24, part, put}
+use Rattle.wire.specs.Wire.{be16, part, put}
 use Rattle.wire.proofs.Runs.{length-put}
 use Rattle.impact.specs.Window.{windowOf}
 use Rattle.impact.proofs.Packing.{wordsOf-same}
 use Rattle.paper.specs.Mode.{modeOf}
 use Rattle.paper.specs.Streams.{perPacket, width, form}
-use Rattle.paper.specs.Packets.{chunks}
 use Rattle.paper.specs.Queue.{piece}
 use Rattle.paper.specs.Controller.{nothingOpen, withStreams}
 use Rattle.paper.proofs.Table.{several-rules}
