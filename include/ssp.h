@@ -27,7 +27,7 @@ extern "C" {
 
 /* ------------------------------------------------------------- lengths */
 
-#define SSP_STATE_BYTES 8713      /* least length of a controller's state */
+#define SSP_STATE_BYTES 8715      /* least length of a controller's state */
 #define SSP_READER_BYTES 9962     /* least length of a reader's state */
 #define SSP_OUT_BYTES 126         /* least output of ssp_frame */
 #define SSP_READER_OUT_BYTES 776  /* least output of ssp_reader_packet */

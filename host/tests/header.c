@@ -485,6 +485,11 @@ static void hold_replies(void)
     HOLDS(SSP_SHORT_OUTPUT, ssp_frame(state, ROOM, NULL, 0, NULL, 0));
     HOLDS(SSP_UNFIT_STATE, ssp_frame(NULL, 0, NULL, 0, NULL, 0));
     hold("start on nothing", SSP_UNFIT_STATE, ssp_start(NULL, 0));
+    memset(state, 0, ROOM);
+    hold("a controller that was never started", SSP_UNFIT_STATE,
+         give(NULL, 0));
+    ssp_reader_start(state, ROOM);
+    hold("a reader as a controller", SSP_UNFIT_STATE, give(NULL, 0));
 }
 
 static uint8_t read_piece(unsigned stream, unsigned count, unsigned place)

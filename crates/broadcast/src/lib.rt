@@ -4,24 +4,23 @@ use state::ALTITUDE;
 use state::BROADCASTS;
 use state::ENTRY_TIME;
 use state::FURTHER;
-use state::NIBBLE;
 use state::REFERENCE;
 use state::TIME;
 ghost use mathlib.Core.Path.{_≡_};
-ghost use Prim.Native.Nat.{_<_, _≤_};
+ghost use Prim.Native.Nat.{_<_};
 ghost use lib.ListN.{length};
 ghost use Rattle.wire.specs.Wire.{be16};
 ghost use Rattle.paper.specs.Frames.{byte};
 ghost use Rattle.frames.specs.declared.Kind.the-variants.{Broadcast};
 ghost use Rattle.frames.specs.Meaning.{channel, meant};
-ghost use Rattle.state.specs.Range.{Fit};
+ghost use Rattle.state.specs.Range.{Whole};
 ghost use Rattle.lent.specs.Told.{told};
 ghost use Rattle.machine.specs.Heard.{heardOn, movedOn};
 ghost use Rattle.machine.specs.Called.{toldOn};
 
 // Its count is raised, its words are stored, and m is 0.
 fn hear(s: &mut [u8], side: Side, f: &[u8])
-    requires { ⌜ (Fit (now s)) × (length (now f) ≡ 8) ⌝ }
+    requires { ⌜ (Whole (now s)) × (length (now f) ≡ 8) ⌝ }
     ensures { λ _. ⌜ now (s .exit) ≡ heardOn (now (s .entry)) (channel side) (be16 (now (f .entry)) 2) (be16 (now (f .entry)) 4) (byte (now (f .entry)) 6) (byte (now (f .entry)) 7) ⌝ }
 {
     wire::raise16(s, state::channel_at(BROADCASTS, side));
@@ -42,10 +41,10 @@ fn hear(s: &mut [u8], side: Side, f: &[u8])
 
 // The mode rule, and the entry where it changes the mode.
 fn move_on(s: &mut [u8])
-    requires { ⌜ Fit (now s) ⌝ }
+    requires { ⌜ Whole (now s) ⌝ }
     ensures { λ _. ⌜ now (s .exit) ≡ movedOn (now (s .entry)) ⌝ }
 {
-    let mode = s[NIBBLE];
+    let mode = state::nibble(s);
     if clock::locked_in(mode) {
         return;
     }
@@ -62,7 +61,7 @@ fn move_on(s: &mut [u8])
 
 // The reply to a broadcast.
 pub fn frame(s: &mut [u8], side: Side, f: &[u8]) -> u8
-    requires { ⌜ (Fit (now s)) × (length (now f) ≡ 8) ⌝ }
+    requires { ⌜ (Whole (now s)) × (length (now f) ≡ 8) ⌝ }
     ensures { λ r. ⌜ told r (now (s .exit)) ≡ toldOn (now (s .entry)) (meant (Broadcast side) (now (f .entry))) 126 ⌝ }
 {
     if clock::seconds(wire::get16(f, 2)) < clock::seconds(wire::get16(s, TIME)) {

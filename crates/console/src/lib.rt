@@ -132,7 +132,7 @@ fn serve(machine: Machine, state: &mut [u8])
 
 // Program bench: serves from a fresh controller.
 pub fn serve_controller() {
-    let mut state = [0u8; 8713];
+    let mut state = [0u8; 8715];
     controller::start(&mut state);
     serve(Machine::Controller, &mut state);
 }

@@ -2,13 +2,14 @@
 use frames::Kind;
 use state::BYTES;
 use state::HOUSED;
+use state::MARK;
 ghost use mathlib.Core.Path.{_≡_};
 ghost use Prim.Native.Nat.{_≤_};
 ghost use lib.ListN.{length};
 ghost use Rattle.wire.specs.Wire.{part, put};
 ghost use Rattle.frames.specs.Meaning.{meant, Sized};
-ghost use Rattle.state.specs.Layout.{stateBytes, housedAt};
-ghost use Rattle.state.specs.Range.{Fit};
+ghost use Rattle.state.specs.Layout.{housedAt};
+ghost use Rattle.state.specs.Range.{Whole};
 ghost use Rattle.lent.specs.Told.{told, res};
 ghost use Rattle.machine.specs.Called.{repliedOn, stepOf, startOf};
 
@@ -25,7 +26,7 @@ pub fn start(s: &mut [u8]) -> u8
 
 // The 58 bytes of a frame 07 are kept. By way of an array all are read before the first is written, and a few wide moves do it.
 fn house(s: &mut [u8], f: &[u8])
-    requires { ⌜ (stateBytes ≤ length (now s)) × (length (now f) ≡ 59) ⌝ }
+    requires { ⌜ (Whole (now s)) × (length (now f) ≡ 59) ⌝ }
     ensures { λ _. ⌜ now (s .exit) ≡ put (now (s .entry)) housedAt (part (now (f .entry)) 1 58) ⌝ }
 {
     let mut kept = [0u8; 58];
@@ -35,7 +36,7 @@ fn house(s: &mut [u8], f: &[u8])
 
 // The reply to a frame of a kind, with an output that is long enough.
 fn handle(k: Kind, s: &mut [u8], f: &[u8], out: &mut [u8]) -> u8
-    requires { ⌜ (Fit (now s)) × (Sized k (now f)) × (126 ≤ length (now out)) ⌝ }
+    requires { ⌜ (Whole (now s)) × (Sized k (now f)) × (126 ≤ length (now out)) ⌝ }
     ensures { λ r. ⌜ res r (now (out .exit)) (now (s .exit)) ≡ repliedOn (now (s .entry)) (meant k (now (f .entry))) (now (out .entry)) ⌝ }
 {
     match k {
@@ -60,10 +61,7 @@ fn handle(k: Kind, s: &mut [u8], f: &[u8], out: &mut [u8]) -> u8
 pub fn frame(s: &mut [u8], f: &[u8], out: &mut [u8]) -> u8
     ensures { λ r. ⌜ res r (now (out .exit)) (now (s .exit)) ≡ stepOf (now (s .entry)) (now (f .entry)) (now (out .entry)) ⌝ }
 {
-    if s.len() < BYTES {
-        return 10;
-    }
-    if !state::in_range(s) {
+    if !lent::fits(s, BYTES, MARK) {
         return 10;
     }
     if out.len() < 126 {

@@ -12,10 +12,10 @@ use Rattle.paper.specs.Mode.{number, modeOf, nibble, entered}
 use Rattle.paper.specs.Commands.{outside, decoded}
 use Rattle.paper.specs.Streams.{rowOf, takenIn}
 use Rattle.paper.specs.Packets.{dataOf, datastream, cut}
-use Rattle.paper.specs.Queue.{numbered, after, put, without}
+use Rattle.paper.specs.Queue.{numbered, after, replaced, without}
 use Rattle.paper.specs.Controller.{start, queued}
 use Rattle.paper.specs.Housekeeping.{housekeepingData, housekeepingPacket}
-use Rattle.paper.specs.Acts.{emptied, enter, joinedBy, closed, sampled, noted, cleared, commanded, obeyed, shown, polled as polls, performed, polledFrom as pollsFrom, shownFrom, accepted, answer}
+use Rattle.paper.specs.Acts.{emptied, enter, joinedBy, closed, sampled, noted, cleared, commanded, obeyed, pollOutput, pollAnswered, performed, pollAnsweredFrom, pollOutputFrom, accepted, answer}
 use Rattle.paper.specs.Step.{reply, refused, replied, step}
 use Rattle.paper.specs.Reader.{arrive, wellFormed, packetOf, sound, readerStart, received, understood, readerStep}
 use Rattle.paper.specs.Runs.{Call, call, readings}
@@ -48,7 +48,7 @@ other : {A : Type 0} → false ≡ true → A
 other e = absurd (false≢true e)
 
 pub across : Across
-unfolding polledOf ownOf complete handedOut arrive wellFormed packetOf sound readerStart received understood readerStep readings housekeepingData housekeepingPacket onChannel frameOf number modeOf nibble entered outside decoded rowOf takenIn dataOf datastream cut numbered after put without start queued emptied enter joinedBy closed sampled noted cleared commanded obeyed shown polls performed pollsFrom shownFrom accepted answer reply refused replied step fullPacket sent sentAt sentBy countsAfter numberedAll takesAt numbersAfter takenAt polledFrom polled
+unfolding polledOf ownOf complete handedOut arrive wellFormed packetOf sound readerStart received understood readerStep readings housekeepingData housekeepingPacket onChannel frameOf number modeOf nibble entered outside decoded rowOf takenIn dataOf datastream cut numbered after replaced without start queued emptied enter joinedBy closed sampled noted cleared commanded obeyed pollOutput pollAnswered performed pollAnsweredFrom pollOutputFrom accepted answer reply refused replied step fullPacket sent sentAt sentBy countsAfter numberedAll takesAt numbersAfter takenAt polledFrom polled
 across =
     record {
       housekeeping-comes =

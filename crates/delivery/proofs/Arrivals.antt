@@ -13,7 +13,7 @@ use native.Mathlib.Decide.{decLe}
 use lib.Dec.{eqb}
 use lib.Arith.{digits-div}
 use borrow.Author.Tests.{eqb-true, eqb-false, eq-eqb, ne-eqb}
-use Rattle.paper.specs.Reader.{Track, fresh, distance, Arrival, repeated, taken, finished, gathers, moves, arrive}
+use Rattle.paper.specs.Reader.{Track, fresh, distance, ArrivalEffect, repeated, taken, finished, gathers, moves, arrive}
 
 -- ---- what pieces do to a record
 
@@ -21,7 +21,7 @@ use Rattle.paper.specs.Reader.{Track, fresh, distance, Arrival, repeated, taken
 abbrev pub Out : Type 0 → Type 0
 Out A = Track A × List (List A)
 
-abbrev pub left : {A : Type 0} → Track A → Arrival A → Out A
+abbrev pub left : {A : Type 0} → Track A → ArrivalEffect A → Out A
 left t repeated = (t, [])
 left t (taken u) = (u, [])
 left t (finished u g) = (u, g ∷ [])

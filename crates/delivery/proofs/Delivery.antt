@@ -15,7 +15,7 @@ use lib.Seq.{getD-append-seam, append-snoc}
 use borrow.Author.Tests.{eqb-true, ltb-true}
 use Rattle.paper.specs.Streams.{pieces, listed, carried}
 use Rattle.paper.specs.Packets.{joined, cut}
-use Rattle.paper.specs.Queue.{put}
+use Rattle.paper.specs.Queue.{replaced}
 use Rattle.paper.specs.Controller.{start}
 use Rattle.paper.specs.Reader.{fresh, readerStart, sound}
 use Rattle.paper.specs.Runs.{Call}
@@ -32,7 +32,7 @@ use Rattle.delivery.proofs.Reading.{trimmed, reads-one}
 use Rattle.delivery.proofs.Sending.{Wholes, sent-whole}
 use Rattle.delivery.proofs.Polled.{polled-fine}
 use Rattle.delivery.proofs.Way.{prefix, chosen-front, arrivals-chosen, Told, told, told-arrives, told-in, fates-others, others-front, found, given-found, given-roomy, told-pieces, same-fates}
-use Rattle.delivery.proofs.Order.{own-append, arrived-append}
+use Rattle.delivery.proofs.QueueOrder.{own-append, arrived-append}
 use Rattle.delivery.proofs.Selected.{completeOf, selected}
 
 -- ---- packet q of a stream is the q-th that was queued
@@ -209,7 +209,7 @@ module _ (s : ℕ) (ps : List (ℕ × List ℕ)) (w : Wholes ps) where
 
 of-complete : (s : ℕ) (ys : List Arrival) (ps : List (ℕ × List ℕ)) (before : ℕ → ℕ)
     → of s (complete before ys ps) ≡ completeOf (pieces s) (before s) (arrived s ys) (of s ps)
-unfolding complete completeOf of put
+unfolding complete completeOf of replaced
 of-complete s ys [] before = refl
 of-complete s ys (p ∷ ps) before = by (eqb (p .0) s) refl (of-complete s ys ps _)
   where
@@ -217,7 +217,7 @@ of-complete s ys (p ∷ ps) before = by (eqb (p .0) s) refl (of-complete s ys ps
     t = p .0
 
     rest : List (ℕ × List ℕ)
-    rest = complete (put before (p .0) (before (p .0) + pieces (p .0))) ys ps
+    rest = complete (replaced before (p .0) (before (p .0) + pieces (p .0))) ys ps
 
     whole : Bool
     whole = allAmong (pieces (p .0)) (before (p .0)) (arrived (p .0) ys)

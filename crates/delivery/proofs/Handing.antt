@@ -15,8 +15,8 @@ use borrow.Author.Tests.{eqb-true, eqb-false, ltb-true}
 use Rattle.wire.specs.Wire.{be16}
 use Rattle.paper.specs.Streams.{pieces, listed, carried}
 use Rattle.paper.specs.Packets.{joined}
-use Rattle.paper.specs.Queue.{put}
-use Rattle.paper.specs.Reader.{Track, distance, placed, Arrival, repeated, taken, finished, gathers, moves, arrives, arrive, Packet, packet, notCarried, noPacket, wellFormed, packetOf, sound, Reader, readerStart, Heard, heard, received, understood, readerStep}
+use Rattle.paper.specs.Queue.{replaced}
+use Rattle.paper.specs.Reader.{Track, distance, placed, ArrivalEffect, repeated, taken, finished, gathers, moves, arrives, arrive, Packet, packet, notCarried, noPacket, wellFormed, packetOf, sound, Reader, readerStart, ReaderOutcome, readerOutcome, received, understood, readerStep}
 use Rattle.paper.specs.Runs.{Call, readings}
 use Rattle.delivery.specs.HandedOut.{handedOut}
 use Rattle.paper.proofs.All.{All}
@@ -39,7 +39,7 @@ record Sized (k : ℕ) (t : Track (List ℕ)) : Type 0 where
   full : Full (t .gathered)
 
 -- what an arrival leaves, and finishes
-abbrev Sizes : ℕ → Arrival (List ℕ) → Type 0
+abbrev Sizes : ℕ → ArrivalEffect (List ℕ) → Type 0
 Sizes k repeated = Unit {0}
 Sizes k (taken t) = Sized k t
 Sizes k (finished t g) = Sized k t × (length g ≡ k) × Full g
@@ -93,11 +93,11 @@ abbrev Ordered : Reader → Type 0
 Ordered r = (t : ℕ) → carried t ≡ true → Sized (pieces t) (r t)
 
 -- what a call hands out, of stream s
-abbrev Listed : ℕ → Heard → Type 0
+abbrev Listed : ℕ → ReaderOutcome → Type 0
 Listed s h = h .reply ≡ 1 → length (h .out) ≡ listed s
 
-ordered-put : (r : Reader) (s : ℕ) (t : Track (List ℕ)) → Ordered r → Sized (pieces s) t → Ordered (put r s t)
-unfolding put
+ordered-put : (r : Reader) (s : ℕ) (t : Track (List ℕ)) → Ordered r → Sized (pieces s) t → Ordered (replaced r s t)
+unfolding replaced
 ordered-put r s t o z u c = by (eqb s u) refl
   where
     by : (b : Bool) → eqb s u ≡ b → Sized (pieces u) (cond b t (r u))
@@ -107,7 +107,7 @@ ordered-put r s t o z u c = by (eqb s u) refl
 unlike : (n : ℕ) → eqb n 1 ≡ false → {X : Type 0} → n ≡ 1 → X
 unlike n e h = absurd (eqb-false n 1 e h)
 
-received-listed : (r : Reader) (s : ℕ) (a : Arrival (List ℕ)) → carried s ≡ true → Ordered r → Sizes (pieces s) a
+received-listed : (r : Reader) (s : ℕ) (a : ArrivalEffect (List ℕ)) → carried s ≡ true → Ordered r → Sizes (pieces s) a
     → Ordered (received r s a .next) × Listed s (received r s a)
 unfolding received
 received-listed r s repeated c o z = (o, unlike 22 refl)
@@ -118,8 +118,8 @@ received-listed r s (finished t g) c o z = by (sound s (joined g))
     fits = omega (arith, carried-rules s c .fits, length-joined g (z .2), ap (λ (n : ℕ). n * 118) (z .1))
 
     by : (b : Bool)
-        → Ordered (cond b (heard 1 (take (listed s) (joined g)) (put r s t)) (heard 23 [] (put r s t)) .next)
-        × Listed s (cond b (heard 1 (take (listed s) (joined g)) (put r s t)) (heard 23 [] (put r s t)))
+        → Ordered (cond b (readerOutcome 1 (take (listed s) (joined g)) (replaced r s t)) (readerOutcome 23 [] (replaced r s t)) .next)
+        × Listed s (cond b (readerOutcome 1 (take (listed s) (joined g)) (replaced r s t)) (readerOutcome 23 [] (replaced r s t)))
     by true = (ordered-put r s t o (z .0), λ h. length-take-le (listed s) (joined g) fits)
     by false = (ordered-put r s t o (z .0), unlike 23 refl)
 
@@ -157,8 +157,8 @@ unfolding readerStep
 step-listed r f room o = by (ltb room 776)
   where
     by : (b : Bool)
-        → Ordered (cond b (heard 24 [] r) (understood r (packetOf f)) .next)
-        × Listed (be16 f 6 % 16) (cond b (heard 24 [] r) (understood r (packetOf f)))
+        → Ordered (cond b (readerOutcome 24 [] r) (understood r (packetOf f)) .next)
+        × Listed (be16 f 6 % 16) (cond b (readerOutcome 24 [] r) (understood r (packetOf f)))
     by true = (o, unlike 24 refl)
     by false = understood-listed r f (packetOf f) refl (packet-sound f) o
 
@@ -172,7 +172,7 @@ lists (x ∷ xs) r o =
     let got = step-listed r (x .bytes) (x .room) o in
     by (eqb (readerStep r (x .bytes) (x .room) .reply) 1) refl (got .1) (lists xs (readerStep r (x .bytes) (x .room) .next) (got .0))
   where
-    h : Heard
+    h : ReaderOutcome
     h = readerStep r (x .bytes) (x .room)
 
     by : (b : Bool) → eqb (h .reply) 1 ≡ b → Listed (be16 (x .bytes) 6 % 16) h → AtLength (handedOut xs (readings (h .next) xs))

@@ -8,7 +8,7 @@ pub mod Reading
 pub mod Polled
 pub mod Way
 pub mod Selected
-pub mod Order
+pub mod QueueOrder
 pub mod Delivery
 pub mod Together
 pub mod Demand3

@@ -9,9 +9,9 @@ use Rattle.paper.specs.Mode.{number, modeOf, nibble, entered}
 use Rattle.paper.specs.Commands.{outside, decoded}
 use Rattle.paper.specs.Streams.{rowOf, takenIn}
 use Rattle.paper.specs.Packets.{dataOf, datastream, cut}
-use Rattle.paper.specs.Queue.{numbered, after, put, without}
+use Rattle.paper.specs.Queue.{numbered, after, replaced, without}
 use Rattle.paper.specs.Controller.{start, queued}
-use Rattle.paper.specs.Acts.{emptied, enter, joinedBy, closed, sampled, noted, cleared, commanded, obeyed, shown, polled as polls, performed, polledFrom as pollsFrom, shownFrom, accepted, answer}
+use Rattle.paper.specs.Acts.{emptied, enter, joinedBy, closed, sampled, noted, cleared, commanded, obeyed, pollOutput, pollAnswered, performed, pollAnsweredFrom, pollOutputFrom, accepted, answer}
 use Rattle.paper.specs.Step.{reply, refused, replied, step}
 use Rattle.paper.specs.Reader.{arrive, wellFormed, packetOf, sound, readerStart, received, understood, readerStep}
 use Rattle.paper.specs.Runs.{readings}
@@ -23,7 +23,7 @@ use Rattle.delivery.specs.Demands.{twoPackets, Loss}
 use Rattle.delivery.proofs.Way.{chosen-all}
 
 pub loss : Loss
-unfolding polledOf ownOf complete handedOut arrive wellFormed packetOf sound readerStart received understood readerStep readings onChannel frameOf number modeOf nibble entered outside decoded rowOf takenIn dataOf datastream cut numbered after put without start queued emptied enter joinedBy closed sampled noted cleared commanded obeyed shown polls performed pollsFrom shownFrom accepted answer reply refused replied step fullPacket sent sentAt sentBy countsAfter numberedAll takesAt numbersAfter takenAt polledFrom polled
+unfolding polledOf ownOf complete handedOut arrive wellFormed packetOf sound readerStart received understood readerStep readings onChannel frameOf number modeOf nibble entered outside decoded rowOf takenIn dataOf datastream cut numbered after replaced without start queued emptied enter joinedBy closed sampled noted cleared commanded obeyed pollOutput pollAnswered performed pollAnsweredFrom pollOutputFrom accepted answer reply refused replied step fullPacket sent sentAt sentBy countsAfter numberedAll takesAt numbersAfter takenAt polledFrom polled
 loss =
     record {
       comes =

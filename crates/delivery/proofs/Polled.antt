@@ -16,13 +16,13 @@ use Rattle.paper.specs.Frames.{Channel, cdmuA, cdmuB, Frame, broadcast, command
 use Rattle.paper.specs.Commands.{clear, housekeeping, setMode, Decoded, request, refusal, names, decoded}
 use Rattle.paper.specs.Streams.{pieces}
 use Rattle.paper.specs.Packets.{cut}
-use Rattle.paper.specs.Queue.{Piece, piece, wrap, numbered, after, put, without}
+use Rattle.paper.specs.Queue.{Piece, piece, wrap, numbered, after, replaced, without}
 use Rattle.paper.specs.Controller.{Controller, start}
-use Rattle.paper.specs.Acts.{accepted, answer, shownFrom}
+use Rattle.paper.specs.Acts.{accepted, answer, pollOutputFrom}
 use Rattle.paper.specs.Step.{holds, reply, refused, Outcome, outcome, replied, step}
 use Rattle.paper.specs.Reader.{packet, packetOf}
 use Rattle.paper.specs.Runs.{Call, replies}
-use Rattle.paper.specs.History.{isAccepted, sentAt, sentBy, countsAfter, numberedAll, Takes, nothing, theFirst, named, clears, takes, leaves, sent, takesAt}
+use Rattle.paper.specs.History.{isAccepted, sentAt, sentBy, countsAfter, numberedAll, Takes, nothing, theFirst, named, commandTakes, takes, leaves, sent, takesAt}
 use Rattle.delivery.specs.Polls.{Polled, Numbers, isPoll, piecesQueued, none-queued, joinedAt, numbersAfter, takenAt, written, polledFrom, polled, pollOutputs, Numbered, polledOf}
 use Rattle.paper.proofs.Refusals.{Clear, reply-is, passed}
 use Rattle.paper.proofs.History.{queues-step}
@@ -53,8 +53,8 @@ unfolding after
 after-wire n c [] h = h
 after-wire n c (x ∷ xs) h = after-wire (suc n) (wrap c) xs (ap wrap h ∙ wrap-suc n)
 
-put-wire : (N M : ℕ → ℕ) (s n c : ℕ) → ((t : ℕ) → M t ≡ N t % 4096) → c ≡ n % 4096 → (t : ℕ) → put M s c t ≡ put N s n t % 4096
-unfolding put
+put-wire : (N M : ℕ → ℕ) (s n c : ℕ) → ((t : ℕ) → M t ≡ N t % 4096) → c ≡ n % 4096 → (t : ℕ) → replaced M s c t ≡ replaced N s n t % 4096
+unfolding replaced
 put-wire N M s n c h g t = at (eqb s t)
   where
     at : (b : Bool) → cond b c (M t) ≡ cond b n (N t) % 4096
@@ -69,7 +69,7 @@ all-wire (p ∷ ps) N M h =
     let s : ℕ = p .0 in
     let xs : List (List ℕ) = cut (pieces s) (p .1) in
     let rest =
-    all-wire ps (put N s (after suc (N s) xs)) (put M s (after wrap (M s) xs))
+    all-wire ps (replaced N s (after suc (N s) xs)) (replaced M s (after wrap (M s) xs))
     (put-wire N M s (after suc (N s) xs) (after wrap (M s) xs) h (after-wire (N s) (M s) xs (h s))) in (
       ap₂ _++_ (numbered-wire s (N s) (M s) xs (h s)) (rest .0) ∙ sym (map-append wire (numbered suc s (N s) xs) _),
       rest .1,
@@ -213,12 +213,12 @@ rising-all : (s : ℕ) (ps : List (ℕ × List ℕ)) (N : ℕ → ℕ) (H : List
     → lo ≤ length H → Rising H lo (piecesIn s q)
     → Rising (H ++ piecesQueued s ps) lo (piecesIn s (q ++ numberedAll suc N ps))
     × (countsAfter suc N ps s ≡ length (H ++ piecesQueued s ps))
-unfolding numberedAll countsAfter piecesQueued put
+unfolding numberedAll countsAfter piecesQueued replaced
 rising-all s [] N H lo q n l f = (rw (append-nil H, append-nil q) f, rw (append-nil H) n)
 rising-all s (p ∷ ps) N H lo q n l f = at (eqb (p .0) s) refl (λ G r m g k. rising-all s ps M G lo r m g k)
   where
     M : ℕ → ℕ
-    M = put N (p .0) (after suc (N (p .0)) (cut (pieces (p .0)) (p .1)))
+    M = replaced N (p .0) (after suc (N (p .0)) (cut (pieces (p .0)) (p .1)))
 
     front : List (Piece (List ℕ))
     front = numbered suc (p .0) (N (p .0)) (cut (pieces (p .0)) (p .1))
@@ -288,23 +288,23 @@ Effect s waiting taken spared out =
 
 module _ (s : ℕ) (c : Controller) (w : Numbers) (k : Beside c w) (g : Readies (c .streams .queue)) where
   polls : (cc : Channel) (q : List (Piece (List ℕ))) → Readies (map wire q)
-      → Effect s q (take 1 q) (drop 1 q) (shownFrom c cc (map wire q))
-  unfolding shownFrom
+      → Effect s q (take 1 q) (drop 1 q) (pollOutputFrom c cc (map wire q))
+  unfolding pollOutputFrom
   polls cc [] h = inl (refl, (λ H lo f. f), λ T ps u. u)
   polls cc (p ∷ q) h =
       inr (p, q, refl, refl, refl, polled-parse cc (c .tallies .telemetry) (wire p) (h .0))
 
   -- where no piece joins those that wait
-  first : (cc : Channel) → Effect s (w .waiting ++ []) (take 1 (w .waiting ++ [])) (drop 1 (w .waiting ++ [])) (shownFrom c cc (c .streams .queue))
+  first : (cc : Channel) → Effect s (w .waiting ++ []) (take 1 (w .waiting ++ [])) (drop 1 (w .waiting ++ [])) (pollOutputFrom c cc (c .streams .queue))
   first cc =
       let q : List (Piece (List ℕ)) = w .waiting ++ [] in
       let e : c .streams .queue ≡ map wire q = k .queue ∙ ap (map wire) (sym (append-nil (w .waiting))) in
-      subst (λ (r : List (Piece (List ℕ))). Effect s q (take 1 q) (drop 1 q) (shownFrom c cc r)) (sym e) (polls cc q (subst Readies e g))
+      subst (λ (r : List (Piece (List ℕ))). Effect s q (take 1 q) (drop 1 q) (pollOutputFrom c cc r)) (sym e) (polls cc q (subst Readies e g))
 
   keeps : (q : List (Piece (List ℕ))) (out : List ℕ) → Effect s q [] q out
   keeps q out = inl (refl, (λ H lo f. f), λ T ps u. u)
 
-  orders : (d : Decoded) (q : List (Piece (List ℕ))) (out : List ℕ) → Effect s q [] (leaves (clears d) q) out
+  orders : (d : Decoded) (q : List (Piece (List ℕ))) (out : List ℕ) → Effect s q [] (leaves (commandTakes d) q) out
   orders (request (clear mask)) q out =
       inl (refl, (λ H lo f. rising-without s (names mask) H lo q f), λ T ps u. sub-without (names mask) q T ps u)
   orders (request housekeeping) q out = keeps q out

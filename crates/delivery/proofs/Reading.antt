@@ -12,8 +12,8 @@ use borrow.Author.Tests.{eqb-true, eq-eqb, le-ltb}
 use Rattle.wire.specs.Wire.{be16}
 use Rattle.paper.specs.Streams.{pieces, listed, carried}
 use Rattle.paper.specs.Packets.{joined}
-use Rattle.paper.specs.Queue.{put}
-use Rattle.paper.specs.Reader.{Arrival, repeated, taken, finished, arrive, Packet, packet, notCarried, noPacket, wellFormed, packetOf, sound, Reader, Heard, heard, received, understood, readerStep}
+use Rattle.paper.specs.Queue.{replaced}
+use Rattle.paper.specs.Reader.{ArrivalEffect, repeated, taken, finished, arrive, Packet, packet, notCarried, noPacket, wellFormed, packetOf, sound, Reader, ReaderOutcome, readerOutcome, received, understood, readerStep}
 use Rattle.paper.specs.Runs.{Call, readings}
 use Rattle.delivery.specs.HandedOut.{handedOut, of}
 use Rattle.delivery.proofs.Arrivals.{run}
@@ -54,40 +54,40 @@ stream-of f t count x e = stream-inside f (wellFormed f) (carried (be16 f 6 % 16
 -- ---- one call
 
 -- what a call adds to what is handed out, before what later calls add
-abbrev shows : ℕ → Heard → (Reader → List (ℕ × List ℕ)) → List (ℕ × List ℕ)
+abbrev shows : ℕ → ReaderOutcome → (Reader → List (ℕ × List ℕ)) → List (ℕ × List ℕ)
 shows t h rest = cond (eqb (h .reply) 1) ((t, h .out) ∷ rest (h .next)) (rest (h .next))
 
 module _ (s : ℕ) (rest : Reader → List (ℕ × List ℕ)) (l : List (ℕ × List ℕ))
     (ih : (q : Reader) → of s (rest q) ≡ trimmed s (run (pieces s) (q s) l)) (r : Reader) (count : ℕ) (x : List ℕ) where
   -- a packet of stream s
-  own : (a : Arrival (List ℕ)) → arrive (pieces s) (r s) count x ≡ a
+  own : (a : ArrivalEffect (List ℕ)) → arrive (pieces s) (r s) count x ≡ a
       → of s (shows s (received r s a) rest) ≡ trimmed s (run (pieces s) (r s) ((count, x) ∷ l))
-  unfolding received run trimmed of put
+  unfolding received run trimmed of replaced
   own repeated e = rw e (ih r)
-  own (taken u) e = rw e (ih (put r s u) ∙ rw (eq-eqb s s refl))
+  own (taken u) e = rw e (ih (replaced r s u) ∙ rw (eq-eqb s s refl))
   own (finished u g) e = rw e (at (sound s (joined g)))
     where
-      left : of s (rest (put r s u)) ≡ trimmed s (run (pieces s) u l)
-      left = ih (put r s u) ∙ rw (eq-eqb s s refl)
+      left : of s (rest (replaced r s u)) ≡ trimmed s (run (pieces s) u l)
+      left = ih (replaced r s u) ∙ rw (eq-eqb s s refl)
 
       at : (b : Bool)
-          → of s (shows s (cond b (heard 1 (take (listed s) (joined g)) (put r s u)) (heard 23 [] (put r s u))) rest)
+          → of s (shows s (cond b (readerOutcome 1 (take (listed s) (joined g)) (replaced r s u)) (readerOutcome 23 [] (replaced r s u))) rest)
           ≡ cond b (take (listed s) (joined g) ∷ trimmed s (run (pieces s) u l)) (trimmed s (run (pieces s) u l))
       at true = rw (eq-eqb s s refl) (ap (λ m. take (listed s) (joined g) ∷ m) left)
       at false = left
 
   -- a packet of another stream
-  other : (t : ℕ) → eqb t s ≡ false → (a : Arrival (List ℕ)) → of s (shows t (received r t a) rest) ≡ trimmed s (run (pieces s) (r s) l)
-  unfolding received of put
+  other : (t : ℕ) → eqb t s ≡ false → (a : ArrivalEffect (List ℕ)) → of s (shows t (received r t a) rest) ≡ trimmed s (run (pieces s) (r s) l)
+  unfolding received of replaced
   other t n repeated = ih r
-  other t n (taken u) = ih (put r t u) ∙ rw n
+  other t n (taken u) = ih (replaced r t u) ∙ rw n
   other t n (finished u g) = at (sound t (joined g))
     where
-      left : of s (rest (put r t u)) ≡ trimmed s (run (pieces s) (r s) l)
-      left = ih (put r t u) ∙ rw n
+      left : of s (rest (replaced r t u)) ≡ trimmed s (run (pieces s) (r s) l)
+      left = ih (replaced r t u) ∙ rw n
 
       at : (b : Bool)
-          → of s (shows t (cond b (heard 1 (take (listed t) (joined g)) (put r t u)) (heard 23 [] (put r t u))) rest)
+          → of s (shows t (cond b (readerOutcome 1 (take (listed t) (joined g)) (replaced r t u)) (readerOutcome 23 [] (replaced r t u))) rest)
           ≡ trimmed s (run (pieces s) (r s) l)
       at true = rw n left
       at false = left

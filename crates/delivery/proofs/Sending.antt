@@ -15,13 +15,12 @@ use Rattle.wire.specs.Wire.{be16}
 use Rattle.paper.specs.Frames.{Channel, Frame, broadcast, command, tick, sample, poll, status, analogue, faulty, frameOf}
 use Rattle.paper.specs.Impact.{Impact, Stamp}
 use Rattle.paper.specs.Commands.{names, decoded}
-use Rattle.paper.specs.Streams.{Form, ofBytes, of12Bits, rowOf, acc-i, hk, pieces, listed, perPacket, width, form, carried}
-use Rattle.paper.specs.Streams as table
+use Rattle.paper.specs.Streams.{Form, ofBytes, of12Bits, rowOf, acc-i, hk, pieces, listed, perPacket, width, form, carried, hasSamples}
 use Rattle.paper.specs.Packets.{pack, joined, made, dataOf, opening, closing, header, datastream, cut}
-use Rattle.paper.specs.Queue.{Piece, wrap, numbered, after, put}
+use Rattle.paper.specs.Queue.{Piece, wrap, numbered, after, replaced}
 use Rattle.paper.specs.Controller.{Controller, start, stampNow}
 use Rattle.paper.specs.Housekeeping.{housekeepingData, housekeepingPacket}
-use Rattle.paper.specs.Acts.{completes, taken, impactPacket, joinedBy, closes, noted, shownFrom, answer}
+use Rattle.paper.specs.Acts.{completes, withReading, impactPacket, joinedBy, closes, noted, pollOutputFrom, answer}
 use Rattle.paper.specs.Step.{holds, queues, reply, replied, step}
 use Rattle.paper.specs.Reader.{packet, packetOf}
 use Rattle.paper.specs.Runs.{Call, runs}
@@ -42,7 +41,7 @@ length-joined w [] e = sym (zero-mul w)
 length-joined w (x ∷ xs) e = length-append x (joined xs) ∙ rw (e .0, length-joined w xs (e .1), suc-mul (length xs) w) (omega arith)
 
 -- samples that fill a packet of stream s: DEN's 72 values are packed, the others' bytes are stored
-length-data : (s : ℕ) (xs : List (List ℕ)) → table.sampled s ≡ true → Each (width s) xs → length xs ≡ perPacket s
+length-data : (s : ℕ) (xs : List (List ℕ)) → hasSamples s ≡ true → Each (width s) xs → length xs ≡ perPacket s
     → 8 + length (dataOf s xs) ≡ listed s
 unfolding dataOf
 length-data s xs h e n = by (form s) refl
@@ -88,7 +87,7 @@ whole-impact : (i : Impact) → length (i .ring) ≡ 512 → Whole acc-i (impact
 unfolding impactPacket rowOf
 whole-impact i l = whole-datastream acc-i (i .stamp) (pack (i .ring)) refl (omega (arith, length-pack 256 (i .ring) l))
 
-whole-samples : (c : Controller) (s : ℕ) (x : List ℕ) → table.sampled s ≡ true → length x ≡ width s → closes c s ≡ true → Sizes c
+whole-samples : (c : Controller) (s : ℕ) (x : List ℕ) → hasSamples s ≡ true → length x ≡ width s → closes c s ≡ true → Sizes c
     → Whole s (fullPacket c s x)
 unfolding fullPacket joinedBy
 whole-samples c s x h l e k =
@@ -102,7 +101,7 @@ sent-accepted c (broadcast cc time altitude spin phase) room p k = tt
 sent-accepted c (command cc id sequence parameters) room p k =
     whole-only (queues (decoded id parameters)) hk _ (λ e. whole-housekeeping (noted c cc id sequence) k)
 sent-accepted c (tick r) room p k =
-    whole-only (completes c) acc-i _ (λ e. whole-impact (taken (c .impact) r) (taken-ring (c .impact) r (k .readings)))
+    whole-only (completes c) acc-i _ (λ e. whole-impact (withReading (c .impact) r) (taken-ring (c .impact) r (k .readings)))
 sent-accepted c (sample s x) room p k =
     whole-only (closes c s) s _ (λ e. whole-samples c s x (not-false _ (p .carries)) (eqb-true _ _ (not-false _ (p .sized))) e k)
 sent-accepted c (poll cc) room p k = tt
@@ -151,8 +150,8 @@ after-below n (x ∷ xs) h = after-below (wrap n) xs (omega arith)
 abbrev pub Below : (ℕ → ℕ) → Type 0
 Below counts = (s : ℕ) → counts s < 4096
 
-put-below : (counts : ℕ → ℕ) (s n : ℕ) → Below counts → n < 4096 → Below (put counts s n)
-unfolding put
+put-below : (counts : ℕ → ℕ) (s n : ℕ) → Below counts → n < 4096 → Below (replaced counts s n)
+unfolding replaced
 put-below counts s n h l t = by (eqb s t)
   where
     by : (b : Bool) → cond b n (counts t) < 4096
@@ -215,7 +214,7 @@ queue-pieces xs = waits-fresh xs .ready
 pub poll-tells : (c : Controller) (x : Call) (cc : Channel) (p : Piece (List ℕ)) (rest : List (Piece (List ℕ))) → Waits c
     → frameOf (x .bytes) ≡ poll cc → c .streams .queue ≡ p ∷ rest → step c (x .bytes) (x .room) .reply ≡ 0
     → packetOf (step c (x .bytes) (x .room) .out) ≡ packet (p .stream) (p .count) (p .body)
-unfolding step replied answer shownFrom
+unfolding step replied answer pollOutputFrom
 poll-tells c x cc p rest w f q e =
     let r : reply (holds c) (frameOf (x .bytes)) (x .room) ≡ 0 = sym (reply-is c (x .bytes) (x .room)) ∙ e in
     rw (r, f, q) (polled-parse cc (c .tallies .telemetry) p ((rw q at (w .ready)) .0))

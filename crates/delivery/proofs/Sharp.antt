@@ -14,9 +14,9 @@ use Rattle.paper.specs.Mode.{number, modeOf, nibble, entered}
 use Rattle.paper.specs.Commands.{outside, names, decoded}
 use Rattle.paper.specs.Streams.{rowOf, takenIn}
 use Rattle.paper.specs.Packets.{dataOf, datastream, cut}
-use Rattle.paper.specs.Queue.{wrap, numbered, after, put, without}
+use Rattle.paper.specs.Queue.{wrap, numbered, after, replaced, without}
 use Rattle.paper.specs.Controller.{raised, Open, nothingOpen, Controller, start, queued}
-use Rattle.paper.specs.Acts.{emptied, enter, joinedBy, closed, sampled, noted, cleared, commanded, obeyed, shown, polled as polls, performed, polledFrom as pollsFrom, shownFrom, accepted, answer}
+use Rattle.paper.specs.Acts.{emptied, enter, joinedBy, closed, sampled, noted, cleared, commanded, obeyed, pollOutput, pollAnswered, performed, pollAnsweredFrom, pollOutputFrom, accepted, answer}
 use Rattle.paper.specs.Step.{reply, refused, replied, step}
 use Rattle.paper.specs.Reader.{arrive, wellFormed, packetOf, sound, readerStart, received, understood, readerStep}
 use Rattle.paper.specs.Runs.{Call, call, runs, readings}
@@ -91,16 +91,16 @@ round a =
       packets = raised (a .packets);
       commands = raised (a .commands);
       id = 0x13;
-      counts = put (a .counts) 0x0B (after wrap (a .counts 0x0B) (cut 5 packet));
-      queued = put (a .queued) 0x0B (after suc (a .queued 0x0B) (cut 5 packet));
+      counts = replaced (a .counts) 0x0B (after wrap (a .counts 0x0B) (cut 5 packet));
+      queued = replaced (a .queued) 0x0B (after suc (a .queued 0x0B) (cut 5 packet));
     }
 
 -- nothing is open after the clear
 abbrev none-open : ℕ → Open
-none-open s = cond (names 0x0800 s) nothingOpen (put (λ t. nothingOpen) 0x0B nothingOpen s)
+none-open s = cond (names 0x0800 s) nothingOpen (replaced (λ t. nothingOpen) 0x0B nothingOpen s)
 
 still-none : none-open ≡ (λ s. nothingOpen)
-unfolding put
+unfolding replaced
 still-none = fun-ext (λ s. both (names 0x0800 s) (eqb 0x0B s))
   where
     both : (a b : Bool) → cond a nothingOpen (cond b nothingOpen nothingOpen) ≡ nothingOpen
@@ -110,12 +110,12 @@ still-none = fun-ext (λ s. both (names 0x0800 s) (eqb 0x0B s))
 
 round-polled : (m : ℕ) (a : At) (rest : List Call)
     → polledFrom (held m a) (beside a) (sample ∷ clear ∷ rest) ≡ polledFrom (heldWith none-open m (round a)) (beside (round a)) rest
-unfolding heldWith round onChannel frameOf number modeOf nibble entered outside decoded rowOf takenIn dataOf datastream cut numbered after put without start queued emptied enter joinedBy closed sampled noted cleared commanded obeyed shown polls performed pollsFrom shownFrom accepted answer reply refused replied step runs fullPacket sent sentAt sentBy countsAfter numberedAll takesAt numbersAfter takenAt polledFrom polled
+unfolding heldWith round onChannel frameOf number modeOf nibble entered outside decoded rowOf takenIn dataOf datastream cut numbered after replaced without start queued emptied enter joinedBy closed sampled noted cleared commanded obeyed pollOutput pollAnswered performed pollAnsweredFrom pollOutputFrom accepted answer reply refused replied step runs fullPacket sent sentAt sentBy countsAfter numberedAll takesAt numbersAfter takenAt polledFrom polled
 round-polled m a rest = refl
 
 round-sent : (m : ℕ) (a : At) (rest : List Call)
     → sentBy (held m a) (sample ∷ clear ∷ rest) ≡ (0x0B, packet) ∷ sentBy (heldWith none-open m (round a)) rest
-unfolding heldWith round onChannel frameOf number modeOf nibble entered outside decoded rowOf takenIn dataOf datastream cut numbered after put without start queued emptied enter joinedBy closed sampled noted cleared commanded obeyed shown polls performed pollsFrom shownFrom accepted answer reply refused replied step runs fullPacket sent sentAt sentBy countsAfter numberedAll takesAt numbersAfter takenAt polledFrom polled
+unfolding heldWith round onChannel frameOf number modeOf nibble entered outside decoded rowOf takenIn dataOf datastream cut numbered after replaced without start queued emptied enter joinedBy closed sampled noted cleared commanded obeyed pollOutput pollAnswered performed pollAnsweredFrom pollOutputFrom accepted answer reply refused replied step runs fullPacket sent sentAt sentBy countsAfter numberedAll takesAt numbersAfter takenAt polledFrom polled
 round-sent m a rest = refl
 
 unfoldable after-rounds : ℕ → At → At
@@ -169,15 +169,15 @@ abbrev pub before : List Call
 before = to5 ∷ rounds 819 once
 
 before-polled : polled before ≡ polledFrom (held 0 (after-rounds 819 from)) (beside (after-rounds 819 from)) once
-unfolding heldWith from onChannel frameOf number modeOf nibble entered outside decoded rowOf takenIn dataOf datastream cut numbered after put without start queued emptied enter joinedBy closed sampled noted cleared commanded obeyed shown polls performed pollsFrom shownFrom accepted answer reply refused replied step runs fullPacket sent sentAt sentBy countsAfter numberedAll takesAt numbersAfter takenAt polledFrom polled
+unfolding heldWith from onChannel frameOf number modeOf nibble entered outside decoded rowOf takenIn dataOf datastream cut numbered after replaced without start queued emptied enter joinedBy closed sampled noted cleared commanded obeyed pollOutput pollAnswered performed pollAnsweredFrom pollOutputFrom accepted answer reply refused replied step runs fullPacket sent sentAt sentBy countsAfter numberedAll takesAt numbersAfter takenAt polledFrom polled
 before-polled = rounds-polled 819 0 from once
 
 before-sent : sentBy start before ≡ replicate 819 (0x0B, packet) ++ sentBy (held 0 (after-rounds 819 from)) once
-unfolding heldWith from onChannel frameOf number modeOf nibble entered outside decoded rowOf takenIn dataOf datastream cut numbered after put without start queued emptied enter joinedBy closed sampled noted cleared commanded obeyed shown polls performed pollsFrom shownFrom accepted answer reply refused replied step runs fullPacket sent sentAt sentBy countsAfter numberedAll takesAt numbersAfter takenAt polledFrom polled
+unfolding heldWith from onChannel frameOf number modeOf nibble entered outside decoded rowOf takenIn dataOf datastream cut numbered after replaced without start queued emptied enter joinedBy closed sampled noted cleared commanded obeyed pollOutput pollAnswered performed pollAnsweredFrom pollOutputFrom accepted answer reply refused replied step runs fullPacket sent sentAt sentBy countsAfter numberedAll takesAt numbersAfter takenAt polledFrom polled
 before-sent = rounds-sent 819 0 from once
 
 pub before-first : Shows before (replicate 5 came) (4095 ∷ 4096 ∷ 4097 ∷ 4098 ∷ 4099 ∷ []) ((0x0B, packet) ∷ []) []
-unfolding heldWith from round after-rounds arrivals arrivalsFrom ownOf handedOut of complete arrive wellFormed packetOf sound readerStart received understood readerStep readings onChannel frameOf number modeOf nibble entered outside decoded rowOf takenIn dataOf datastream cut numbered after put without start queued emptied enter joinedBy closed sampled noted cleared commanded obeyed shown polls performed pollsFrom shownFrom accepted answer reply refused replied step runs fullPacket sent sentAt sentBy countsAfter numberedAll takesAt numbersAfter takenAt polledFrom polled
+unfolding heldWith from round after-rounds arrivals arrivalsFrom ownOf handedOut of complete arrive wellFormed packetOf sound readerStart received understood readerStep readings onChannel frameOf number modeOf nibble entered outside decoded rowOf takenIn dataOf datastream cut numbered after replaced without start queued emptied enter joinedBy closed sampled noted cleared commanded obeyed pollOutput pollAnswered performed pollAnsweredFrom pollOutputFrom accepted answer reply refused replied step runs fullPacket sent sentAt sentBy countsAfter numberedAll takesAt numbersAfter takenAt polledFrom polled
 before-first =
     record {
       quiet = subst (λ ps. Quiet (arrivalsFrom (λ s. none) ps (replicate 5 came))) (sym before-polled) tt;
@@ -192,10 +192,10 @@ abbrev pub between : List Call
 between = to5 ∷ (once ++ rounds 819 once)
 
 abbrev closed-one : ℕ → Open
-closed-one = put (λ t. nothingOpen) 0x0B nothingOpen
+closed-one = replaced (λ t. nothingOpen) 0x0B nothingOpen
 
 one-closed : closed-one ≡ (λ s. nothingOpen)
-unfolding put
+unfolding replaced
 one-closed = fun-ext (λ s. both (eqb 0x0B s))
   where
     both : (b : Bool) → cond b nothingOpen nothingOpen ≡ nothingOpen
@@ -203,23 +203,23 @@ one-closed = fun-ext (λ s. both (eqb 0x0B s))
     both false = refl
 
 then : At
-then = record { packets = 1; commands = 1; id = 0x32; counts = put (λ s. 0) 0x0B 5; queued = put (λ s. 0) 0x0B 5 }
+then = record { packets = 1; commands = 1; id = 0x32; counts = replaced (λ s. 0) 0x0B 5; queued = replaced (λ s. 0) 0x0B 5 }
 
 between-polled : polled between ≡ polled (to5 ∷ once) ++ polledFrom (held 5 (after-rounds 819 then)) (beside (after-rounds 819 then)) once
-unfolding heldWith then onChannel frameOf number modeOf nibble entered outside decoded rowOf takenIn dataOf datastream cut numbered after put without start queued emptied enter joinedBy closed sampled noted cleared commanded obeyed shown polls performed pollsFrom shownFrom accepted answer reply refused replied step runs fullPacket sent sentAt sentBy countsAfter numberedAll takesAt numbersAfter takenAt polledFrom polled
+unfolding heldWith then onChannel frameOf number modeOf nibble entered outside decoded rowOf takenIn dataOf datastream cut numbered after replaced without start queued emptied enter joinedBy closed sampled noted cleared commanded obeyed pollOutput pollAnswered performed pollAnsweredFrom pollOutputFrom accepted answer reply refused replied step runs fullPacket sent sentAt sentBy countsAfter numberedAll takesAt numbersAfter takenAt polledFrom polled
 between-polled =
     ap (λ (o : ℕ → Open). polled (to5 ∷ once) ++ polledFrom (heldWith o 5 then) (beside then) (rounds 819 once)) one-closed
     ∙ ap (λ l. polled (to5 ∷ once) ++ l) (rounds-polled 819 5 then once)
 
 between-sent : sentBy start between ≡ (0x0B, packet) ∷ (replicate 819 (0x0B, packet) ++ sentBy (held 5 (after-rounds 819 then)) once)
-unfolding heldWith then onChannel frameOf number modeOf nibble entered outside decoded rowOf takenIn dataOf datastream cut numbered after put without start queued emptied enter joinedBy closed sampled noted cleared commanded obeyed shown polls performed pollsFrom shownFrom accepted answer reply refused replied step runs fullPacket sent sentAt sentBy countsAfter numberedAll takesAt numbersAfter takenAt polledFrom polled
+unfolding heldWith then onChannel frameOf number modeOf nibble entered outside decoded rowOf takenIn dataOf datastream cut numbered after replaced without start queued emptied enter joinedBy closed sampled noted cleared commanded obeyed pollOutput pollAnswered performed pollAnsweredFrom pollOutputFrom accepted answer reply refused replied step runs fullPacket sent sentAt sentBy countsAfter numberedAll takesAt numbersAfter takenAt polledFrom polled
 between-sent =
     ap (λ (o : ℕ → Open). (0x0B, packet) ∷ sentBy (heldWith o 5 then) (rounds 819 once)) one-closed
     ∙ ap (λ l. (0x0B, packet) ∷ l) (rounds-sent 819 5 then once)
 
 pub between-two : Shows between (replicate 10 came) (0 ∷ 1 ∷ 2 ∷ 3 ∷ 4 ∷ 4100 ∷ 4101 ∷ 4102 ∷ 4103 ∷ 4104 ∷ [])
     ((0x0B, packet) ∷ (0x0B, packet) ∷ []) ((0x0B, packet) ∷ [])
-unfolding heldWith then round after-rounds arrivals arrivalsFrom ownOf handedOut of complete arrive wellFormed packetOf sound readerStart received understood readerStep readings onChannel frameOf number modeOf nibble entered outside decoded rowOf takenIn dataOf datastream cut numbered after put without start queued emptied enter joinedBy closed sampled noted cleared commanded obeyed shown polls performed pollsFrom shownFrom accepted answer reply refused replied step runs fullPacket sent sentAt sentBy countsAfter numberedAll takesAt numbersAfter takenAt polledFrom polled
+unfolding heldWith then round after-rounds arrivals arrivalsFrom ownOf handedOut of complete arrive wellFormed packetOf sound readerStart received understood readerStep readings onChannel frameOf number modeOf nibble entered outside decoded rowOf takenIn dataOf datastream cut numbered after replaced without start queued emptied enter joinedBy closed sampled noted cleared commanded obeyed pollOutput pollAnswered performed pollAnsweredFrom pollOutputFrom accepted answer reply refused replied step runs fullPacket sent sentAt sentBy countsAfter numberedAll takesAt numbersAfter takenAt polledFrom polled
 between-two =
     record {
       quiet = subst (λ ps. Quiet (arrivalsFrom (λ s. none) ps (replicate 10 came))) (sym between-polled) tt;

@@ -15,11 +15,10 @@ use Rattle.paper.specs.Clock.{seconds, secondsOf}
 use Rattle.paper.specs.Mode.{Mode, surface, proximity, same, modeOf, ruled}
 use Rattle.paper.specs.Impact.{Impact, Stamp, Collection, idle, running, collects, noComparison, noReading, declares}
 use Rattle.paper.specs.Commands.{clear, housekeeping, setMode, Decoded, request, refusal, names, decoded}
-use Rattle.paper.specs.Streams.{acc-i, perPacket, width}
-use Rattle.paper.specs.Streams as table
-use Rattle.paper.specs.Queue.{Piece, put}
+use Rattle.paper.specs.Streams.{acc-i, perPacket, width, hasSamples}
+use Rattle.paper.specs.Queue.{Piece, replaced}
 use Rattle.paper.specs.Controller.{Open, nothingOpen, Controller, start, queued, withImpact, stampNow}
-use Rattle.paper.specs.Acts.{emptied, enter, heard, moved, counted, inProximity, completes, taken, detected, watched, watching, ended, impactPacket, completed, ticks, joinedBy, closes, closed, extended, sampled, noted, cleared, commanded, obeyed, polled, performed, polledFrom, accepted, answer}
+use Rattle.paper.specs.Acts.{emptied, enter, heard, moved, mRaised, inProximity, completes, withReading, detected, watched, watching, ended, impactPacket, completed, ticks, joinedBy, closes, closed, keptOpen, sampled, noted, cleared, commanded, obeyed, pollAnswered, performed, pollAnsweredFrom, accepted, answer}
 use Rattle.paper.specs.Step.{holds, reply, lateHeard, erred, refused, outcome, replied, step}
 use Rattle.paper.specs.Runs.{Call, runs}
 use Rattle.paper.proofs.All.{All, all-append}
@@ -62,8 +61,8 @@ nothing-fits : (b : Bool) (s : ℕ) (o : Open) → Fits s o → Fits s (cond b n
 nothing-fits true s o f = (omega arith, tt)
 nothing-fits false s o f = f
 
-put-fits : (opened : ℕ → Open) (s : ℕ) (o : Open) → ((t : ℕ) → Fits t (opened t)) → Fits s o → (t : ℕ) → Fits t (put opened s o t)
-unfolding put
+put-fits : (opened : ℕ → Open) (s : ℕ) (o : Open) → ((t : ℕ) → Fits t (opened t)) → Fits s o → (t : ℕ) → Fits t (replaced opened s o t)
+unfolding replaced
 put-fits opened s o f g t = by (eqb s t) refl
   where
     by : (b : Bool) → eqb s t ≡ b → Fits t (cond b o (opened t))
@@ -97,8 +96,8 @@ sizes-moved c k = by (same mode (c .standing .mode))
     by false = sizes-enter c mode (c .standing .locked) t k
 
 -- the ring with a reading more
-pub taken-ring : (i : Impact) (r : ℕ) → length (i .ring) ≡ 512 → length (taken i r .ring) ≡ 512
-unfolding taken
+pub taken-ring : (i : Impact) (r : ℕ) → length (i .ring) ≡ 512 → length (withReading i r .ring) ≡ 512
+unfolding withReading
 taken-ring i r l = omega (arith, l, length-append (drop 1 (i .ring)) (r ∷ []), length-drop 1 (i .ring))
 
 watched-ring : (k : Collection) (i : Impact) (st : Stamp) → watched k i st .ring ≡ i .ring
@@ -122,28 +121,28 @@ sizes-completed c k = by (c .standing .locked)
     by false = sizes-enter done surface false (secondsOf (c .impact .stamp .time)) k
 
 sizes-ticks : (c : Controller) (r : ℕ) → Sizes c → Sizes (ticks c r)
-unfolding ticks counted watching
+unfolding ticks mRaised watching
 sizes-ticks c r k = by (inProximity c) (completes c)
   where
     e : Controller
-    e = withImpact (counted c) (taken (c .impact) r)
+    e = withImpact (mRaised c) (withReading (c .impact) r)
 
     held : Sizes e
     held = with-ring _ k (taken-ring (c .impact) r (k .readings))
 
-    by : (b f : Bool) → Sizes (cond b (cond f (completed e) (watching e)) (counted c))
+    by : (b f : Bool) → Sizes (cond b (cond f (completed e) (watching e)) (mRaised c))
     by true true = sizes-completed e held
     by true false = with-ring _ held (ap length (watched-ring (e .impact .collection) (e .impact) (stampNow e acc-i)) ∙ held .readings)
     by false f = k
 
-sizes-sampled : (c : Controller) (s : ℕ) (x : List ℕ) → table.sampled s ≡ true → length x ≡ width s → Sizes c → Sizes (sampled c s x)
-unfolding sampled closed extended queued joinedBy
+sizes-sampled : (c : Controller) (s : ℕ) (x : List ℕ) → hasSamples s ≡ true → length x ≡ width s → Sizes c → Sizes (sampled c s x)
+unfolding sampled closed keptOpen queued joinedBy
 sizes-sampled c s x h l k = by (closes c s) refl
   where
     o : Open
     o = joinedBy (c .streams .opened s) (stampNow c s) x
 
-    by : (b : Bool) → closes c s ≡ b → Sizes (cond b (closed c s o) (extended c s o))
+    by : (b : Bool) → closes c s ≡ b → Sizes (cond b (closed c s o) (keptOpen c s o))
     by true e = with-open _ k (put-fits (c .streams .opened) s nothingOpen (k .fits) (omega arith, tt))
     by false e =
         let few : suc (length (c .streams .opened s .samples)) ≢ perPacket s = eqb-false _ _ e in
@@ -161,8 +160,8 @@ sizes-performed c (request (setMode value)) k =
     sizes-enter (withImpact c (ended (c .impact))) (modeOf (value % 8)) (leb 8 value) (seconds (c .clock .time)) k
 sizes-performed c (refusal n) k = k
 
-sizes-polled : (c : Controller) (cc : Channel) (q : List (Piece (List ℕ))) → Sizes c → Sizes (polledFrom c cc q)
-unfolding polledFrom polled
+sizes-polled : (c : Controller) (cc : Channel) (q : List (Piece (List ℕ))) → Sizes c → Sizes (pollAnsweredFrom c cc q)
+unfolding pollAnsweredFrom pollAnswered
 sizes-polled c cc [] k = k
 sizes-polled c cc (p ∷ rest) k = k
 

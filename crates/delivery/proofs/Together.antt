@@ -12,7 +12,7 @@ use lib.ListN.{length, getD, take, drop}
 use borrow.Author.Tests.{eqb-true, eqb-false, eq-eqb, ne-eqb}
 use Rattle.wire.specs.Wire.{be16}
 use Rattle.paper.specs.Controller.{start}
-use Rattle.paper.specs.Reader.{Reader, Heard, readerStart, readerStep}
+use Rattle.paper.specs.Reader.{Reader, ReaderOutcome, readerStart, readerStep}
 use Rattle.paper.specs.Runs.{Call, reads, readings}
 use Rattle.paper.specs.History.{sentBy}
 use Rattle.delivery.specs.Polls.{polled}
@@ -23,7 +23,7 @@ use Rattle.delivery.specs.Demands.{InOrder}
 use Rattle.delivery.proofs.Sending.{sent-whole}
 use Rattle.delivery.proofs.Polled.{polled-sub}
 use Rattle.delivery.proofs.Way.{prefix}
-use Rattle.delivery.proofs.Order.{Stands, advance, stands, none-complete}
+use Rattle.delivery.proofs.QueueOrder.{Stands, advance, stands, none-complete}
 use Rattle.delivery.proofs.Delivery.{delivers, comes-front, fates-come}
 
 -- calls one after the other
@@ -34,7 +34,7 @@ handed-append [] ys r = refl
 handed-append (x ∷ xs) ys r =
     by (eqb (readerStep r (x .bytes) (x .room) .reply) 1) (handed-append xs ys (readerStep r (x .bytes) (x .room) .next))
   where
-    h : Heard
+    h : ReaderOutcome
     h = readerStep r (x .bytes) (x .room)
 
     one : ℕ × List ℕ
@@ -120,7 +120,7 @@ module _ (calls : List Call) (fates : List Fate) (quiet : Quiet (arrivals calls 
       let here : arrivals calls fates ≡ (pre ++ (y ∷ [])) ++ ys = e ∙ sym (append-assoc pre (y ∷ []) ys) in
       let more : Given (pre ++ (y ∷ [])) (done ++ (x ∷ [])) = given-snoc pre done y x g (h .0, h .1) in
       let D : List (ℕ × List ℕ) = handedOut (x ∷ []) (readings (reads readerStart done) (x ∷ [])) in
-      let got : Heard = readerStep (reads readerStart done) (x .bytes) (x .room) in
+      let got : ReaderOutcome = readerStep (reads readerStart done) (x .bytes) (x .room) in
       let adds : handsOut (done ++ (x ∷ [])) ≡ handsOut done ++ D = handed-append done (x ∷ []) readerStart in
       let each : (s : ℕ) → of s D ≡ of s (on .1 .0) =
       λ s.

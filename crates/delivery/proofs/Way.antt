@@ -15,9 +15,9 @@ use lib.ListN.{length, getD, take}
 use borrow.Author.Tests.{eqb-true, eqb-false, eq-eqb}
 use Rattle.paper.specs.Streams.{listed}
 use Rattle.paper.specs.Packets.{joined}
-use Rattle.paper.specs.Queue.{put}
+use Rattle.paper.specs.Queue.{replaced}
 use Rattle.paper.specs.Reader as reader
-use Rattle.paper.specs.Reader.{Packet, packet, notCarried, noPacket, packetOf, sound, Reader, heard, received, understood, readerStart}
+use Rattle.paper.specs.Reader.{Packet, packet, notCarried, noPacket, packetOf, sound, Reader, readerOutcome, received, understood, readerStart}
 use Rattle.paper.specs.Runs.{Call}
 use Rattle.delivery.specs.Polls.{Polled, polledOf}
 use Rattle.delivery.specs.Chosen.{Chosen, Arrival, own, strange, ownOf, isOf, NoOthers, Gaps}
@@ -94,8 +94,8 @@ Mine t none = Unit {0}
 Mine t (some p) = (p .stream ≡ t) × Genuine p
 
 mine-put : (last : ℕ → Option Polled) (p : Polled) → Genuine p → ((t : ℕ) → Mine t (last t)) → (t : ℕ)
-    → Mine t (put last (p .stream) (some p) t)
-unfolding put
+    → Mine t (replaced last (p .stream) (some p) t)
+unfolding replaced
 mine-put last p g h t = at (eqb (p .stream) t) refl
   where
     at : (b : Bool) → eqb (p .stream) t ≡ b → Mine t (cond b (some p) (last t))
@@ -151,15 +151,15 @@ module _ (s : ℕ) where
 
   hears : (fates : List Fate) (last : ℕ → Option Polled) (ps : List Polled) → ((t : ℕ) → Mine t (last t)) → Genuines ps
       → Chosen (left (last s) (polledOf s ps)) (ownOf s (arrivalsFrom last ps fates))
-  unfolding arrivalsFrom ownOf polledOf put
+  unfolding arrivalsFrom ownOf polledOf replaced
   hears [] last ps m g = tt
   hears (lost ∷ fs) last [] m g = hears fs last [] m g
   hears (lost ∷ fs) last (p ∷ ps) m g =
       loses p (last s) (polledOf s ps) (ownOf s (arrivalsFrom last ps fs)) (eqb (p .stream) s) (hears fs last ps m (g .1))
   hears (came ∷ fs) last [] m g = hears fs last [] m g
   hears (came ∷ fs) last (p ∷ ps) m g =
-      comes p (last s) (polledOf s ps) (ownOf s (arrivalsFrom (put last (p .stream) (some p)) ps fs)) (eqb (p .stream) s)
-      (hears fs (put last (p .stream) (some p)) ps (mine-put last p (g .0) m) (g .1))
+      comes p (last s) (polledOf s ps) (ownOf s (arrivalsFrom (replaced last (p .stream) (some p)) ps fs)) (eqb (p .stream) s)
+      (hears fs (replaced last (p .stream) (some p)) ps (mine-put last p (g .0) m) (g .1))
   hears (again t ∷ fs) last ps m g =
       repeated t (last t) (polledOf s ps) (arrivalsFrom last ps fs) last refl (m t) (hears fs last ps m g)
   hears (noise y ∷ fs) last ps m g = hears fs last ps m g
@@ -231,14 +231,14 @@ neither : (m : ℕ) → eqb m 20 ≡ false → eqb m 21 ≡ false → (m ≡ 20)
 neither m a b (inl h) = eqb-false m 20 a h
 neither m a b (inr h) = eqb-false m 21 b h
 
-packet-reply : (r : Reader) (s : ℕ) (a : reader.Arrival (List ℕ)) → (received r s a .reply ≡ 20) ⊎ (received r s a .reply ≡ 21) → ⊥
+packet-reply : (r : Reader) (s : ℕ) (a : reader.ArrivalEffect (List ℕ)) → (received r s a .reply ≡ 20) ⊎ (received r s a .reply ≡ 21) → ⊥
 unfolding received
 packet-reply r s reader.repeated h = neither 22 refl refl h
 packet-reply r s (reader.taken t) h = neither 0 refl refl h
 packet-reply r s (reader.finished t g) h = at (sound s (joined g)) h
   where
-    o : Bool → reader.Heard
-    o b = cond b (heard 1 (take (listed s) (joined g)) (put r s t)) (heard 23 [] (put r s t))
+    o : Bool → reader.ReaderOutcome
+    o b = cond b (readerOutcome 1 (take (listed s) (joined g)) (replaced r s t)) (readerOutcome 23 [] (replaced r s t))
 
     at : (b : Bool) → (o b .reply ≡ 20) ⊎ (o b .reply ≡ 21) → ⊥
     at true k = neither 1 refl refl k
@@ -249,7 +249,7 @@ strange-other : (s : ℕ) (f : List ℕ) → NoPacket f → isOf s (packetOf f) 
 unfolding understood
 strange-other s f h =
     by (packetOf f)
-    (subst (λ (o : reader.Heard). (o .reply ≡ 20) ⊎ (o .reply ≡ 21)) (has-room readerStart f 776 (lit≤ tt)) h)
+    (subst (λ (o : reader.ReaderOutcome). (o .reply ≡ 20) ⊎ (o .reply ≡ 21)) (has-room readerStart f 776 (lit≤ tt)) h)
   where
     by : (p : Packet) → (understood readerStart p .reply ≡ 20) ⊎ (understood readerStart p .reply ≡ 21) → isOf s p ≡ true → ⊥
     by (packet t count x) k e = absurd (packet-reply readerStart t _ k)
@@ -317,8 +317,8 @@ OfStream t (some p) = p .stream ≡ t
 
 module _ (s : ℕ) where
   put-stream : (last : ℕ → Option Polled) (p : Polled) → ((t : ℕ) → OfStream t (last t)) → (t : ℕ)
-      → OfStream t (put last (p .stream) (some p) t)
-  unfolding put
+      → OfStream t (replaced last (p .stream) (some p) t)
+  unfolding replaced
   put-stream last p h t = at (eqb (p .stream) t) refl
     where
       at : (b : Bool) → eqb (p .stream) t ≡ b → OfStream t (cond b (some p) (last t))
@@ -338,7 +338,7 @@ module _ (s : ℕ) where
   pub same-fates : (fates : List Fate) (last last′ : ℕ → Option Polled) (ps : List Polled) → ((t : ℕ) → OfStream t (last t))
       → last s ≡ last′ s
       → ownOf s (arrivalsFrom last ps fates) ≡ ownOf s (arrivalsFrom last′ (polledOf s ps) (fatesOf s ps fates))
-  unfolding arrivalsFrom fatesOf ownOf polledOf put
+  unfolding arrivalsFrom fatesOf ownOf polledOf replaced
   same-fates [] last last′ ps m e = refl
   same-fates (lost ∷ fs) last last′ [] m e = same-fates fs last last′ [] m e
   same-fates (lost ∷ fs) last last′ (p ∷ ps) m e = at (eqb (p .stream) s) (same-fates fs last last′ ps m e)
@@ -350,17 +350,17 @@ module _ (s : ℕ) where
       at false h = h
   same-fates (came ∷ fs) last last′ [] m e = same-fates fs last last′ [] m e
   same-fates (came ∷ fs) last last′ (p ∷ ps) m e =
-      at (eqb (p .stream) s) refl (λ l k. same-fates fs (put last (p .stream) (some p)) l ps (put-stream last p m) k)
+      at (eqb (p .stream) s) refl (λ l k. same-fates fs (replaced last (p .stream) (some p)) l ps (put-stream last p m) k)
     where
       rest : List Arrival
-      rest = arrivalsFrom (put last (p .stream) (some p)) ps fs
+      rest = arrivalsFrom (replaced last (p .stream) (some p)) ps fs
 
       at : (b : Bool) → eqb (p .stream) s ≡ b
-          → ((l : ℕ → Option Polled) → put last (p .stream) (some p) s ≡ l s
+          → ((l : ℕ → Option Polled) → replaced last (p .stream) (some p) s ≡ l s
           → ownOf s rest ≡ ownOf s (arrivalsFrom l (polledOf s ps) (fatesOf s ps fs)))
           → cond b (p ∷ ownOf s rest) (ownOf s rest)
           ≡ ownOf s (arrivalsFrom last′ (cond b (p ∷ polledOf s ps) (polledOf s ps)) (cond b (came ∷ fatesOf s ps fs) (fatesOf s ps fs)))
-      at true t ih = rw t (ap (λ l. p ∷ l) (ih (put last′ (p .stream) (some p)) (rw t)))
+      at true t ih = rw t (ap (λ l. p ∷ l) (ih (replaced last′ (p .stream) (some p)) (rw t)))
       at false t ih = ih last′ (rw t e)
   same-fates (again t ∷ fs) last last′ ps m e = at (eqb t s) refl (same-fates fs last last′ ps m e)
     where

@@ -16,7 +16,7 @@ use Rattle.paper.specs.Streams.{pieces, listed, carried}
 use Rattle.paper.specs.Packets.{joined, cut, packetId}
 use Rattle.paper.specs.Queue.{Piece}
 use Rattle.paper.specs.Controller.{Both}
-use Rattle.paper.specs.Acts.{shown}
+use Rattle.paper.specs.Acts.{pollOutput}
 use Rattle.paper.specs.Reader.{packet, wellFormed, packetOf, all99, sound}
 use Rattle.paper.proofs.Packets.{joined-chunks}
 use Rattle.paper.proofs.Table.{carried-small, carried-rules}
@@ -89,18 +89,18 @@ named cdmuB = refl
 id-back : (cc : Channel) → packetId cc / 256 * 256 + packetId cc % 256 ≡ packetId cc
 id-back cc = omega arith
 
-well-formed : (cc : Channel) (t : Both) (p : Piece (List ℕ)) → length (p .body) ≡ 118 → wellFormed (shown cc t p) ≡ true
-unfolding wellFormed shown
+well-formed : (cc : Channel) (t : Both) (p : Piece (List ℕ)) → length (p .body) ≡ 118 → wellFormed (pollOutput cc t p) ≡ true
+unfolding wellFormed pollOutput
 well-formed cc t p l =
-    let f : List ℕ = shown cc t p in
+    let f : List ℕ = pollOutput cc t p in
     let long : eqb (length f) 126 ≡ true = eq-eqb (length f) 126 (omega arith) in
     let id : (eqb (be16 f 0) 0x0F94 || eqb (be16 f 0) 0x0FB4) ≡ true = rw (id-back cc) (named cc) in
     let top : eqb (getD f 2 0 / 64) 3 ≡ true = eq-eqb (getD f 2 0 / 64) 3 (omega arith) in
     and-true long (and-true id (and-true top refl))
 
 -- The reader finds in the bytes of an accepted poll the piece that waited, whatever the channel and its telemetry count.
-pub polled-parse : (cc : Channel) (t : Both) (p : Piece (List ℕ)) → Ready p → packetOf (shown cc t p) ≡ packet (p .stream) (p .count) (p .body)
-unfolding packetOf shown
+pub polled-parse : (cc : Channel) (t : Both) (p : Piece (List ℕ)) → Ready p → packetOf (pollOutput cc t p) ≡ packet (p .stream) (p .count) (p .body)
+unfolding packetOf pollOutput
 polled-parse cc t p r =
     let small : p .stream < 12 = carried-small (p .stream) (r .0) in
     let n : ℕ = p .count * 16 + p .stream in

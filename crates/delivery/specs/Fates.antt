@@ -7,7 +7,7 @@ use mathlib.Core.Option.{Option, none, some}
 use mathlib.Core.List.{List, [], _∷_}
 use Prim.Native.Nat.{ℕ}
 use lib.Dec.{eqb}
-use Rattle.paper.specs.Queue.{put}
+use Rattle.paper.specs.Queue.{replaced}
 use Rattle.paper.specs.Reader.{readerStart, readerStep}
 use Rattle.paper.specs.Runs.{Call}
 use Rattle.delivery.specs.Polls.{Polled, polled}
@@ -30,7 +30,7 @@ arrivalsFrom last ps [] = []
 arrivalsFrom last [] (lost ∷ fs) = arrivalsFrom last [] fs
 arrivalsFrom last (p ∷ ps) (lost ∷ fs) = arrivalsFrom last ps fs
 arrivalsFrom last [] (came ∷ fs) = arrivalsFrom last [] fs
-arrivalsFrom last (p ∷ ps) (came ∷ fs) = own p ∷ arrivalsFrom (put last (p .stream) (some p)) ps fs
+arrivalsFrom last (p ∷ ps) (came ∷ fs) = own p ∷ arrivalsFrom (replaced last (p .stream) (some p)) ps fs
 arrivalsFrom last ps (again s ∷ fs) = repeats (last s) (arrivalsFrom last ps fs)
 arrivalsFrom last ps (noise f ∷ fs) = strange f ∷ arrivalsFrom last ps fs
 

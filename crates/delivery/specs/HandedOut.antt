@@ -7,7 +7,7 @@ use Prim.Native.Nat.{ℕ, zero, suc, _+_, _%_, _≤_}
 use lib.Dec.{eqb}
 use Rattle.wire.specs.Wire.{be16}
 use Rattle.paper.specs.Streams.{pieces}
-use Rattle.paper.specs.Queue.{put}
+use Rattle.paper.specs.Queue.{replaced}
 use Rattle.paper.specs.Controller.{start}
 use Rattle.paper.specs.Reader.{readerStart}
 use Rattle.paper.specs.Runs.{Call, readings}
@@ -54,7 +54,7 @@ unfoldable pub complete : (ℕ → ℕ) → List Arrival → List (ℕ × List �
 complete before ys [] = []
 complete before ys (p ∷ ps) =
     let s : ℕ = p .0 in
-    let rest : List (ℕ × List ℕ) = complete (put before s (before s + pieces s)) ys ps in
+    let rest : List (ℕ × List ℕ) = complete (replaced before s (before s + pieces s)) ys ps in
     cond (allAmong (pieces s) (before s) (arrived s ys)) (p ∷ rest) rest
 
 -- `sentBy` are the datastream packets that calls to the controller queued, with their streams, at their listed lengths.

@@ -1,10 +1,10 @@
 -- Demand 1 holds.
 -- Assumes nothing.
-use mathlib.Core.Path.{_≡_, refl, sym, ap, _∙_, subst}
+use mathlib.Core.Path.{_≡_, refl, sym, ap, _∙_}
 use mathlib.Core.Bool.{Bool, true, false, cond}
 use mathlib.Core.List.{List}
-use Prim.Native.Nat.{ℕ, _≤_, _<_}
-use lib.Dec.{eqb, leb}
+use Prim.Native.Nat.{ℕ, _≤_}
+use lib.Dec.{eqb}
 use lib.ListN.{length, drop}
 use borrow.Author.Tests.{le-leb, lt-leb, ne-eqb, eqb-false}
 use Rattle.paper.specs.Frames.{Channel, Frame, broadcast, command, frameOf}
@@ -13,20 +13,18 @@ use Rattle.paper.specs.Acts.{answer}
 use Rattle.paper.specs.Reader.{Reader, readerStart, readerStep}
 use Rattle.paper.specs.Step.{unfit, holds, reply, isError, lateHeard, erred, refused, countOf, change, changesListed}
 use Rattle.paper.proofs.Refusals.{unlisted}
-use Rattle.state.specs.Layout.{stateBytes}
+use Rattle.state.specs.Layout.{controllerMark, stateBytes}
 use Rattle.state.specs.View.{view}
-use Rattle.state.specs.Range.{Fit, fit}
+use Rattle.state.specs.Range.{fit}
 use Rattle.lent.specs.Told.{Told, told, Res, res}
 use Rattle.state.specs.Fresh.{startedOn}
-use Rattle.lent.specs.Calls.{Framed}
-use Rattle.state.proofs.Ranges.{fit-true}
 use Rattle.wire.specs.Wire.{put}
 use Rattle.machine.specs.Called.{actedOn, changedOn, refusedOn, leftOn, toldOn, repliedOn, stepOf, startOf}
 use Rattle.machine.specs.Runs.{runOf}
-use Rattle.machine.proofs.Past.{call-tail, start-past, past-drop}
-use Rattle.machine.proofs.Fresh.{start-view}
+use Rattle.machine.proofs.Past.{call-tail}
+use Rattle.machine.proofs.Fresh.{start-view, start-tail}
 use Rattle.machine.proofs.Steps.{refused-view, never-10}
-use Rattle.shelf.specs.Layout.{readerBytes}
+use Rattle.shelf.specs.Layout.{readerMark, readerBytes}
 use Rattle.shelf.specs.View.{readerIn}
 use Rattle.shelf.specs.Range.{fit as fitReader}
 use Rattle.shelf.specs.Fresh.{startOf as startReader, startedOn as startedReader}
@@ -34,11 +32,11 @@ use Rattle.shelf.specs.Received.{readOf}
 use Rattle.shelf.specs.Runs.{readsOf}
 use Rattle.shelf.proofs.Fresh as fresh
 use Rattle.shelf.proofs.Refusals.{kept, output, unfit as unfit-told}
-use Rattle.shelf.proofs.Ranges.{fit-true as reader-fit}
+use Rattle.lent.proofs.Fitting.{fitting-true}
 use Rattle.shelf.proofs.Steps.{received-view}
 use Rattle.shelf.proofs.Leaves.{later-bytes, output-past, moved-on}
 use Rattle.shelf.proofs.Runs.{never-25}
-use Rattle.demand.specs.Refusing.{found, Starts, Judges, Receives, Demand1}
+use Rattle.demand.specs.Refusing.{found, Starts, Demand1}
 
 -- ---- the controller
 
@@ -81,7 +79,7 @@ left-by s f o e h =
 
 left-view : (s f o : List ℕ) → fit s ≡ true → (stepOf s f o .reply ≡ 0 → ⊥)
     → view (stepOf s f o .state) ≡ refused (stepOf s f o .reply) (frameOf f) (view s)
-left-view s f o e h = ap view (left-by s f o e h) ∙ refused-view s (fit-true s e) (stepOf s f o .reply) (frameOf f) .0
+left-view s f o e h = ap view (left-by s f o e h) ∙ refused-view s (fitting-true stateBytes controllerMark s e .whole) (stepOf s f o .reply) (frameOf f)
 
 differ : (n m k : ℕ) → n ≡ m → eqb m k ≡ false → n ≡ k → ⊥
 differ n m k e h z = eqb-false m k h (sym e ∙ z)
@@ -138,7 +136,7 @@ starts =
       enough = λ s h. (
         ap (λ (t : Told). t .reply) (begun s h),
         ap (λ (t : Told). view (t .state)) (begun s h) ∙ start-view s h,
-        past-drop (start-past s),
+        start-tail s,
       );
       short = λ s h. rw (lt-leb _ _ h);
     }
@@ -184,7 +182,7 @@ demand1 =
             only-23 = kept;
             handed-past = output-past;
             later-bytes = later-bytes;
-            leaves = λ s f o e b. received-view s f o (reader-fit s e) b;
+            leaves = λ s f o e b. received-view s f o (fitting-true readerBytes readerMark s e) b;
             moved-on = moved-on;
             never-25 = λ s h xs b. ap (λ (t : Told). fitReader (readsOf (t .state) xs)) (reader-begun s h) ∙ never-25 s h xs b;
           };

@@ -1,10 +1,7 @@
 -- Demand 2 holds.
 -- Assumes nothing.
-use mathlib.Core.Path.{_≡_, sym, ap, subst}
-use mathlib.Core.List.{List}
-use Prim.Native.Nat.{ℕ, _≤_}
+use mathlib.Core.Path.{sym, subst}
 use lib.ListN.{length}
-use borrow.Author.Tests.{le-leb}
 use Rattle.paper.specs.Controller.{start}
 use Rattle.paper.specs.Step.{step}
 use Rattle.paper.specs.Reader.{readerStart, readerStep}

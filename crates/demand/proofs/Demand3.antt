@@ -39,7 +39,7 @@ use Rattle.shelf.specs.Layout.{readerBytes}
 use Rattle.shelf.specs.Fresh as shelf
 use Rattle.shelf.specs.Runs.{readingsOf}
 use Rattle.shelf.proofs.Runs.{started-readings}
-use Rattle.demand.specs.Demands.{packetsWritten, handedOut, handsOut, Called, Delivered, ByArrivals, ByFates, InOrder, Independent, Demand3}
+use Rattle.demand.specs.Demands.{packetsWritten, packetsHanded, handsOutOn, Called, Delivered, ByArrivals, ByFates, InOrder, Independent, Demand3}
 
 -- bytes at an output's front are there
 front : (o v : List ℕ) (n : ℕ) → length v ≡ n → take n (put o 0 v) ≡ v
@@ -100,8 +100,8 @@ unfolding shelf.startOf
 reader-started lent h = rw (le-leb readerBytes (length lent) h)
 
 handed-as : (xs : List (List ℕ × List ℕ)) (hs : List (ℕ × List ℕ)) → AtLength (handing.handedOut (calls xs) hs)
-    → handedOut xs (fronts xs hs) ≡ handing.handedOut (calls xs) hs
-unfolding handedOut handing.handedOut
+    → packetsHanded xs (fronts xs hs) ≡ handing.handedOut (calls xs) hs
+unfolding packetsHanded handing.handedOut
 handed-as [] hs l = refl
 handed-as (x ∷ xs) [] l = refl
 handed-as (x ∷ xs) (h ∷ hs) l = by (eqb (h .0) 1) l (λ m. handed-as xs hs m)
@@ -110,18 +110,18 @@ handed-as (x ∷ xs) (h ∷ hs) l = by (eqb (h .0) 1) l (λ m. handed-as xs hs m
     t = be16 (x .0) 6 % 16
 
     by : (b : Bool) → AtLength (cond b ((t, h .1) ∷ handing.handedOut (calls xs) hs) (handing.handedOut (calls xs) hs))
-        → (AtLength (handing.handedOut (calls xs) hs) → handedOut xs (fronts xs hs) ≡ handing.handedOut (calls xs) hs)
-        → cond b ((t, take (listed t) (put (x .1) 0 (h .1))) ∷ handedOut xs (fronts xs hs)) (handedOut xs (fronts xs hs))
+        → (AtLength (handing.handedOut (calls xs) hs) → packetsHanded xs (fronts xs hs) ≡ handing.handedOut (calls xs) hs)
+        → cond b ((t, take (listed t) (put (x .1) 0 (h .1))) ∷ packetsHanded xs (fronts xs hs)) (packetsHanded xs (fronts xs hs))
         ≡ cond b ((t, h .1) ∷ handing.handedOut (calls xs) hs) (handing.handedOut (calls xs) hs)
     by true m ih = λ i. (t, front (x .1) (h .1) (listed t) (m .0) i) ∷ ih (m .1) i
     by false m ih = ih m
 
 -- what is handed out on bytes is what document 01's reader hands out
 handed-is : (ys : List Arrival) (lent : List ℕ) (given : List (List ℕ × List ℕ)) → Called ys lent given
-    → handsOut lent given ≡ handing.handsOut (calls given)
+    → handsOutOn lent given ≡ handing.handsOut (calls given)
 handed-is ys lent given k =
-    ap (λ (b : List ℕ). handedOut given (readingsOf b given)) (reader-started lent (k .long))
-    ∙ ap (handedOut given) (started-readings lent (k .long) given (k .bytes))
+    ap (λ (b : List ℕ). packetsHanded given (readingsOf b given)) (reader-started lent (k .long))
+    ∙ ap (packetsHanded given) (started-readings lent (k .long) given (k .bytes))
     ∙ handed-as given (readings readerStart (calls given)) (handed-length (calls given))
 
 -- ---- the demand

@@ -38,16 +38,16 @@ packetsWritten (x ∷ xs) (o ∷ os) =
 -- ---- the reader's calls
 
 -- what was handed out, each with its stream: at its listed length at the output's front
-unfoldable pub handedOut : List (List ℕ × List ℕ) → List (ℕ × List ℕ) → List (ℕ × List ℕ)
-handedOut [] hs = []
-handedOut (x ∷ xs) [] = []
-handedOut (x ∷ xs) (h ∷ hs) =
+unfoldable pub packetsHanded : List (List ℕ × List ℕ) → List (ℕ × List ℕ) → List (ℕ × List ℕ)
+packetsHanded [] hs = []
+packetsHanded (x ∷ xs) [] = []
+packetsHanded (x ∷ xs) (h ∷ hs) =
     let s : ℕ = be16 (x .0) 6 % 16 in
-    cond (eqb (h .0) 1) ((s, take (listed s) (h .1)) ∷ handedOut xs hs) (handedOut xs hs)
+    cond (eqb (h .0) 1) ((s, take (listed s) (h .1)) ∷ packetsHanded xs hs) (packetsHanded xs hs)
 
 -- by a reader that is started on lent bytes and then called
-abbrev pub handsOut : List ℕ → List (List ℕ × List ℕ) → List (ℕ × List ℕ)
-handsOut lent given = handedOut given (readingsOf (shelf.startOf lent .state) given)
+abbrev pub handsOutOn : List ℕ → List (List ℕ × List ℕ) → List (ℕ × List ℕ)
+handsOutOn lent given = packetsHanded given (readingsOf (shelf.startOf lent .state) given)
 
 -- The reader's calls: the frames that arrive, each with an output of 776 bytes or more; `lent` are the reader's bytes.
 pub record Called (ys : List Arrival) (lent : List ℕ) (given : List (List ℕ × List ℕ)) : Type 0 where
@@ -61,31 +61,31 @@ pub record Called (ys : List Arrival) (lent : List ℕ) (given : List (List ℕ 
 abbrev pub Delivered : List (List ℕ × List ℕ) → List Arrival → ℕ → Type 0
 Delivered xs ys s =
     Comes (calls xs) ys s → (lent : List ℕ) (given : List (List ℕ × List ℕ)) → Called ys lent given
-    → of s (handsOut lent given) ≡ of s (arrivedWhole (calls xs) ys)
+    → of s (handsOutOn lent given) ≡ of s (arrivedWhole (calls xs) ys)
 
 abbrev pub ByArrivals : List Arrival → List Arrival → ℕ → Type 0
 ByArrivals ys zs s =
     ownOf s ys ≡ ownOf s zs → NoOthers s ys → NoOthers s zs → (lent lent′ : List ℕ) (given given′ : List (List ℕ × List ℕ))
-    → Called ys lent given → Called zs lent′ given′ → of s (handsOut lent given) ≡ of s (handsOut lent′ given′)
+    → Called ys lent given → Called zs lent′ given′ → of s (handsOutOn lent given) ≡ of s (handsOutOn lent′ given′)
 
 -- ---- by fates
 
 abbrev pub ByFates : List (List ℕ × List ℕ) → List Arrival → ℕ → Type 0
 ByFates xs ys s =
     Quiet ys → Gaps 0 (arrived s ys) → (lent : List ℕ) (given : List (List ℕ × List ℕ)) → Called ys lent given
-    → of s (handsOut lent given) ≡ of s (arrivedWhole (calls xs) ys)
+    → of s (handsOutOn lent given) ≡ of s (arrivedWhole (calls xs) ys)
 
 abbrev pub InOrder : List (List ℕ × List ℕ) → List Arrival → Type 0
 InOrder xs ys =
     Quiet ys → ((s : ℕ) → Gaps 0 (arrived s ys)) → (lent : List ℕ) (given : List (List ℕ × List ℕ)) → Called ys lent given
-    → handsOut lent given ≡ arrivedWhole (calls xs) ys
+    → handsOutOn lent given ≡ arrivedWhole (calls xs) ys
 
 abbrev pub Independent : List (List ℕ × List ℕ) → List Fate → List Fate → ℕ → Type 0
 Independent xs fates fates′ s =
     fatesOf s (polled (calls xs)) fates ≡ fatesOf s (polled (calls xs)) fates′ → Quiet (arrivals (calls xs) fates)
     → Quiet (arrivals (calls xs) fates′) → (lent lent′ : List ℕ) (given given′ : List (List ℕ × List ℕ))
     → Called (arrivals (calls xs) fates) lent given → Called (arrivals (calls xs) fates′) lent′ given′
-    → of s (handsOut lent given) ≡ of s (handsOut lent′ given′)
+    → of s (handsOutOn lent given) ≡ of s (handsOutOn lent′ given′)
 
 -- ---- the demand
 

@@ -14,7 +14,7 @@ use lib.ListN.{length, drop}
 use Rattle.wire.specs.Wire.{be16, Bytes}
 use Rattle.paper.specs.Frames.{Channel, broadcast, command, frameOf}
 use Rattle.paper.specs.Streams.{pieces, listed}
-use Rattle.paper.specs.Queue.{put}
+use Rattle.paper.specs.Queue.{replaced}
 use Rattle.paper.specs.Controller.{Controller, start}
 use Rattle.paper.specs.Step.{Lent, unfit, holds, reply, isError, lateHeard, erred, changesListed}
 use Rattle.paper.specs.Reader.{Track, distance, placed, Reader, readerStart, readerStep}
@@ -61,15 +61,15 @@ pub record Judges : Type 0 where
       → fit (runOf (startOf s .state) xs) ≡ true
 
 -- "count times 16 plus stream": what a packet's bytes say
-abbrev pub streamIn : List ℕ → ℕ
-streamIn f = be16 f 6 % 16
+abbrev pub packetStream : List ℕ → ℕ
+packetStream f = be16 f 6 % 16
 
-abbrev pub countIn : List ℕ → ℕ
-countIn f = be16 f 6 / 16
+abbrev pub packetCount : List ℕ → ℕ
+packetCount f = be16 f 6 / 16
 
 -- a stream's record, of k pieces, that has moved on to a count, with no gathering
-abbrev pub movedOn : ℕ → Track (List ℕ) → ℕ → Track (List ℕ)
-movedOn k t count =
+abbrev pub recordMovedOn : ℕ → Track (List ℕ) → ℕ → Track (List ℕ)
+recordMovedOn k t count =
     record { last = count; place = placed k (t .place) (distance (t .last) count); running = false; gathered = [] }
 
 -- "Order 25, 24, 20, 21, 22, 23. Only 23 changes state; no refusal writes output, and bytes past what is handed out stay." "25 lent
@@ -84,13 +84,13 @@ pub record Receives : Type 0 where
   pub only-23 : (s f o : List ℕ)
       → (readOf s f o .state ≡ s) ⊎ ((readOf s f o .reply ≡ 0) ⊎ ((readOf s f o .reply ≡ 1) ⊎ (readOf s f o .reply ≡ 23)))
   pub handed-past : (s f o : List ℕ) → readOf s f o .reply ≡ 1
-      → drop (listed (streamIn f)) (readOf s f o .out) ≡ drop (listed (streamIn f)) o
+      → drop (listed (packetStream f)) (readOf s f o .out) ≡ drop (listed (packetStream f)) o
   pub later-bytes : (s f o : List ℕ) → drop readerBytes (readOf s f o .state) ≡ drop readerBytes s
   pub leaves : (s f o : List ℕ) → fitReader s ≡ true → Bytes f
       → readerIn (readOf s f o .state) ≡ readerStep (readerIn s) f (length o) .next
   pub moved-on : (s f o : List ℕ) → Bytes f → readOf s f o .reply ≡ 23
-      → let t : ℕ = streamIn f in
-      readerIn (readOf s f o .state) ≡ put (readerIn s) t (movedOn (pieces t) (readerIn s t) (countIn f))
+      → let t : ℕ = packetStream f in
+      readerIn (readOf s f o .state) ≡ replaced (readerIn s) t (recordMovedOn (pieces t) (readerIn s t) (packetCount f))
   pub never-25 : (s : List ℕ) → readerBytes ≤ length s → (xs : List (List ℕ × List ℕ)) → Framed xs
       → fitReader (readsOf (startReader s .state) xs) ≡ true
 

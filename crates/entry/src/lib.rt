@@ -5,15 +5,14 @@ use state::NIBBLE;
 use state::RING;
 use state::WINDOW;
 ghost use mathlib.Core.Path.{_≡_};
-ghost use Prim.Native.Nat.{_≤_};
-ghost use lib.ListN.{length};
-ghost use Rattle.wire.specs.Wire.{be16, put};
-ghost use Rattle.state.specs.Layout.{stateBytes, mAt, nibbleAt};
+ghost use Rattle.wire.specs.Wire.{put};
+ghost use Rattle.state.specs.Layout.{nibbleAt};
+ghost use Rattle.state.specs.Range.{Whole};
 ghost use Rattle.machine.specs.Entered.{emptiedOn, entryRun, enteredOn};
 
 // Window and ring are emptied, and the impact flag is cleared.
 fn empty(s: &mut [u8])
-    requires { ⌜ stateBytes ≤ length (now s) ⌝ }
+    requires { ⌜ Whole (now s) ⌝ }
     ensures { λ _. ⌜ now (s .exit) ≡ emptiedOn (now (s .entry)) ⌝ }
 {
     wire::set8(s, FLAG, 0);
@@ -23,7 +22,7 @@ fn empty(s: &mut [u8])
 
 // Stores an entry.
 fn note(s: &mut [u8], nibble: u8, reference: u16)
-    requires { ⌜ (stateBytes ≤ length (now s)) × (be16 (now s) mAt ≤ 1023) ⌝ }
+    requires { ⌜ Whole (now s) ⌝ }
     ensures { λ _. ⌜ now (s .exit) ≡ put (now (s .entry)) nibbleAt (entryRun (now (s .entry)) nibble reference) ⌝ }
 {
     let time = state::now_in(s);
@@ -32,7 +31,7 @@ fn note(s: &mut [u8], nibble: u8, reference: u16)
         wire::top24(time),
         wire::mid24(time),
         wire::low24(time),
-        s[NIBBLE],
+        state::nibble(s),
         s[ALTITUDE],
         s[ALTITUDE + 1],
         wire::hi(reference),
@@ -43,7 +42,7 @@ fn note(s: &mut [u8], nibble: u8, reference: u16)
 
 // Enters a mode: `nibble` is the mode, plus 8 if locked.
 pub fn enter(s: &mut [u8], nibble: u8, reference: u16)
-    requires { ⌜ (stateBytes ≤ length (now s)) × (be16 (now s) mAt ≤ 1023) ⌝ }
+    requires { ⌜ Whole (now s) ⌝ }
     ensures { λ _. ⌜ now (s .exit) ≡ enteredOn (now (s .entry)) nibble reference ⌝ }
 {
     note(s, nibble, reference);

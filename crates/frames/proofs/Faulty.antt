@@ -10,7 +10,7 @@ use lib.ListN.{length}
 use borrow.Author.Tests.{ne-eqb}
 use Rattle.paper.specs.Frames.{Frame, faulty, byte, frameOf}
 use Rattle.frames.specs.declared.Sided.the-variants.{Neither}
-use Rattle.frames.specs.Meaning.{Told, Channelled}
+use Rattle.frames.specs.Meaning.{SideOf, Channelled}
 
 pub short : (f : List ℕ) → length f < 2 → faulty ≡ frameOf f
 unfolding frameOf
@@ -22,7 +22,7 @@ either : (b : Bool) (x : Frame) → cond b x x ≡ x
 either true x = refl
 either false x = refl
 
-pub off : (f : List ℕ) → Channelled (byte f 0) → Told (byte f 1) Neither → faulty ≡ frameOf f
+pub off : (f : List ℕ) → Channelled (byte f 0) → SideOf (byte f 1) Neither → faulty ≡ frameOf f
 unfolding frameOf
 off f k h = simp (ne-eqb _ _ (k .tick), ne-eqb _ _ (k .sample), ne-eqb _ _ (k .analogue), h, either)
 

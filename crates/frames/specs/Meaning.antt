@@ -60,8 +60,8 @@ onSide (On side) made = made (channel side)
 onSide Neither made = faulty
 
 -- what the side of a channel byte says of any frame with that byte
-abbrev pub Told : ℕ → Sided → Type 0
-Told cc r = (made : Channel → Frame) → onChannel cc made ≡ onSide r made
+abbrev pub SideOf : ℕ → Sided → Type 0
+SideOf cc r = (made : Channel → Frame) → onChannel cc made ≡ onSide r made
 
 -- a kind that is none of those without a channel
 pub record Channelled (kind : ℕ) : Type 0 where
@@ -72,4 +72,4 @@ pub record Channelled (kind : ℕ) : Type 0 where
 -- what `on_side` promises: the paper's frame, of any frame of that kind and length whose channel byte is of that side
 abbrev pub OnSide : ℕ → ℕ → Side → Kind → Type 0
 OnSide kind n side r =
-    (f : List ℕ) → byte f 0 ≡ kind → length f ≡ n → Told (byte f 1) (On side) → (meant r f ≡ frameOf f) × Sized r f
+    (f : List ℕ) → byte f 0 ≡ kind → length f ≡ n → SideOf (byte f 1) (On side) → (meant r f ≡ frameOf f) × Sized r f

@@ -1,7 +1,7 @@
 // Frames: which kind a frame's bytes are of.
 ghost use mathlib.Core.Path.{_≡_};
 ghost use Rattle.paper.specs.Frames.{frameOf};
-ghost use Rattle.frames.specs.Meaning.{meant, Sized, Told, Channelled, OnSide};
+ghost use Rattle.frames.specs.Meaning.{meant, Sized, SideOf, Channelled, OnSide};
 
 pub enum Side {
     A,
@@ -27,7 +27,7 @@ pub enum Sided {
 
 // The side of a channel byte.
 fn side_of(cc: u8) -> Sided
-    ensures { λ r. ⌜ Told cc r ⌝ }
+    ensures { λ r. ⌜ SideOf cc r ⌝ }
 {
     if cc == 0x0A {
         return Sided::On(Side::A);

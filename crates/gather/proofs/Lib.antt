@@ -1,2 +1,2 @@
 -- Proofs about the reader on lent bytes.
-pub mod Laws
+pub mod Receiving

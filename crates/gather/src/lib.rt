@@ -1,7 +1,6 @@
 // The reader on lent bytes: start, and one packet.
 use shelf::BYTES;
 use shelf::MARK;
-use shelf::MARK_AT;
 use streams::CLOSING;
 use streams::OPENING;
 use track::Move;
@@ -10,24 +9,15 @@ ghost use mathlib.Core.Path.{_≡_};
 ghost use mathlib.Core.Bool.{true};
 ghost use Prim.Native.Nat.{_+_, _*_, _-_, _<_, _≤_};
 ghost use lib.ListN.{length, drop};
-ghost use lib.Dec.{eqb};
-ghost use Rattle.wire.specs.Wire.{be16, part, put};
+ghost use Rattle.wire.specs.Wire.{part, put};
 ghost use Rattle.paper.specs.Streams as Streams;
 ghost use Rattle.paper.specs.Reader as Reader;
 ghost use Rattle.paper.specs.Status.{bit};
 ghost use Rattle.lent.specs.Told.{told, res};
-ghost use Rattle.shelf.specs.Layout.{markAt, readerMark, gatherAt, readerBytes};
+ghost use Rattle.shelf.specs.Layout.{gatherAt, readerBytes};
 ghost use Rattle.shelf.specs.Range as Range;
 ghost use Rattle.shelf.specs.Fresh.{freshOn, startOf};
 ghost use Rattle.shelf.specs.Received.{recordedOn, understoodTo, handsTo, readOf};
-
-// Whether lent bytes begin with the reader's mark.
-fn is_reader(s: &[u8]) -> bool
-    requires { ⌜ readerBytes ≤ length (now s) ⌝ }
-    ensures { λ r. ⌜ r ≡ eqb (be16 (now (s .entry)) markAt) readerMark ⌝ }
-{
-    wire::get16(s, MARK_AT) == MARK
-}
 
 // The record of a stream, anew.
 fn note(s: &mut [u8], stream: u8, t: Track)
@@ -76,8 +66,7 @@ pub fn start(s: &mut [u8]) -> u8
     if s.len() < BYTES {
         return 25;
     }
-    wire::fill(s, 0, BYTES, 0);
-    wire::set16(s, MARK_AT, MARK);
+    lent::blank(s, BYTES, MARK);
     fresh_records(s);
     0
 }
@@ -180,10 +169,7 @@ fn receive(s: &mut [u8], stream: u8, count: u16, f: &[u8], out: &mut [u8]) -> u8
 pub fn packet(s: &mut [u8], f: &[u8], out: &mut [u8]) -> u8
     ensures { λ r. ⌜ res r (now (out .exit)) (now (s .exit)) ≡ readOf (now (s .entry)) (now (f .entry)) (now (out .entry)) ⌝ }
 {
-    if s.len() < BYTES {
-        return 25;
-    }
-    if !is_reader(s) {
+    if !lent::fits(s, BYTES, MARK) {
         return 25;
     }
     if out.len() < 776 {

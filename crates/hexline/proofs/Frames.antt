@@ -8,16 +8,16 @@ use lib.Dec.{leb, ltb, eqb}
 use lib.ListN.{length, length-append}
 use borrow.Author.Tests.{le-leb, lt-leb, ltb-true, ltb-false}
 use Rattle.wire.specs.Wire.{Bytes}
-use Rattle.hexline.specs.Hex.{Read, bytes, faulty, front, pair, readHex, valueOf}
-use Rattle.hexline.specs.Lines.{longest, Line, kept, over, more, bytesOr, frameOf}
-use Rattle.hexline.specs.Talk.{Way, talk, lastly, closed, spoken}
+use Rattle.hexline.specs.Hex.{Read, bytes, faultyText, front, pair, readHex, valueOf}
+use Rattle.hexline.specs.Lines.{longest, LineSoFar, kept, over, more, bytesOr, frameOfLine}
+use Rattle.hexline.specs.Talk.{Way, talk, lastly, wholeText, spoken}
 use Rattle.hexline.specs.Frames.{inFront, linesIn, frameFor, framesOf, EachOfBytes, answers}
 use Rattle.hexline.proofs.Talk.{on, wrote}
 
 -- ---- a line still open, and the lines of more input
 
 -- what is kept of the characters p of an open line
-abbrev held : List ℕ → Line
+abbrev held : List ℕ → LineSoFar
 held p = cond (leb (length p) longest) (kept p) over
 
 -- the characters p before the lines of what follows them
@@ -37,8 +37,8 @@ joins-last : (x : ℕ) (p : List ℕ) → joins (x ∷ p) [] ≡ (x ∷ p) ∷ [
 joins-last x [] = refl
 joins-last x (y ∷ p) = ap (inFront x) (joins-last y p)
 
-held-frame : (p : List ℕ) → frameOf (held p) ≡ frameFor p
-held-frame p = on (λ (b : Bool). frameOf (cond b (kept p) over) ≡ cond b (bytesOr (readHex p)) []) (leb (length p) longest) refl refl
+held-frame : (p : List ℕ) → frameOfLine (held p) ≡ frameFor p
+held-frame p = on (λ (b : Bool). frameOfLine (cond b (kept p) over) ≡ cond b (bytesOr (readHex p)) []) (leb (length p) longest) refl refl
 
 held-more : (p : List ℕ) (c : ℕ) → more (held p) c ≡ held (p ++ (c ∷ []))
 held-more p c = by (ltb (length p) longest) refl
@@ -69,21 +69,21 @@ module _ (a : Way) where
       ∙ sym (append-nil (a s (frameFor (x ∷ p)) .text))
       ∙ ap (λ (ls : List (List ℕ)). answers a s (map frameFor ls)) (sym (joins-last x p))
 
-  goes-on : (p s input : List ℕ) → closed a (talk a [] (held p) s input) ≡ answers a s (map frameFor (joins p (linesIn input)))
+  goes-on : (p s input : List ℕ) → wholeText a (talk a [] (held p) s input) ≡ answers a s (map frameFor (joins p (linesIn input)))
   unfolding talk answers linesIn
   goes-on p s [] = ends p s
   goes-on p s (c ∷ rest) =
-      let f : List ℕ = frameOf (held p) in
+      let f : List ℕ = frameOfLine (held p) in
       on
       (λ (b : Bool).
-      closed a (cond b (talk a (a s f .text) (kept []) (a s f .state) rest) (talk a [] (more (held p) c) s rest))
+      wholeText a (cond b (talk a (a s f .text) (kept []) (a s f .state) rest) (talk a [] (more (held p) c) s rest))
       ≡ answers a s (map frameFor (joins p (cond b ([] ∷ linesIn rest) (inFront c (linesIn rest))))))
       (eqb c 10)
       (wrote a (a s f .text) (kept []) (a s f .state) rest
       ∙ ap (λ (t : List ℕ). a s f .text ++ t) (goes-on [] (a s f .state) rest)
       ∙ ap (λ (g : List ℕ). answers a s (g ∷ map frameFor (linesIn rest))) (held-frame p)
       ∙ ap (λ (ls : List (List ℕ)). answers a s (map frameFor ls)) (sym (joins-ended p (linesIn rest))))
-      (ap (λ (l : Line). closed a (talk a [] l s rest)) (held-more p c)
+      (ap (λ (l : LineSoFar). wholeText a (talk a [] l s rest)) (held-more p c)
       ∙ goes-on (p ++ (c ∷ [])) s rest
       ∙ ap (λ (ls : List (List ℕ)). answers a s (map frameFor ls)) (joins-more p c (linesIn rest)))
 
@@ -99,13 +99,13 @@ none-of-bytes i = omega arith
 front-of-bytes : (x : ℕ) (r : Read) → x < 256 → Bytes (bytesOr r) → Bytes (bytesOr (front x r))
 front-of-bytes x (bytes xs) h k zero = h
 front-of-bytes x (bytes xs) h k (suc i) = k i
-front-of-bytes x faulty h k i = k i
+front-of-bytes x faultyText h k i = k i
 
 -- two digits are a byte
 pair-of-bytes : (h l : ℕ) (r : Read) → Bytes (bytesOr r) → Bytes (bytesOr (pair h l r))
 pair-of-bytes h l r k = at (ltb h 16) refl (ltb l 16) refl
   where
-    at : (a : Bool) → ltb h 16 ≡ a → (b : Bool) → ltb l 16 ≡ b → Bytes (bytesOr (cond a (cond b (front (h * 16 + l) r) faulty) faulty))
+    at : (a : Bool) → ltb h 16 ≡ a → (b : Bool) → ltb l 16 ≡ b → Bytes (bytesOr (cond a (cond b (front (h * 16 + l) r) faultyText) faultyText))
     at true p true q = front-of-bytes (h * 16 + l) r (omega (arith, ltb-true h 16 p, ltb-true l 16 q)) k
     at true p false q = none-of-bytes
     at false p b q = none-of-bytes

@@ -1,4 +1,4 @@
 -- Laws of the definitions: of the text and lines, of a program that answers each line, and of the frames that it answers.
-pub mod Laws
+pub mod HexLines
 pub mod Talk
 pub mod Frames

@@ -8,8 +8,8 @@ use native.Mathlib.Nat.{not-suc-le-zero}
 use native.Mathlib.Omega.{arith}
 use lib.Dec.{leb, eqb}
 use lib.ListN.{length, take}
-use Rattle.hexline.specs.Lines.{longest, Line, kept, over, more, lineOf, Scan, ended, partly, scan, frameOf}
-use Rattle.hexline.specs.Talk.{Way, Talk, talk, lastly, closed, spokenIn}
+use Rattle.hexline.specs.Lines.{longest, LineSoFar, kept, over, more, lineOf, Scan, lineEnded, partly, scan, frameOfLine}
+use Rattle.hexline.specs.Talk.{Way, Talk, talk, lastly, wholeText, spokenIn}
 
 -- what holds at both truth values holds at each
 pub on : (P : Bool → Type 0) (b : Bool) → P true → P false → P b
@@ -18,59 +18,59 @@ on P false x y = y
 
 module _ (a : Way) where
   -- a line answered, and more input
-  abbrev next : List ℕ → Line → List ℕ → List ℕ → Talk
-  next t l s rest = talk a (t ++ a s (frameOf l) .text) (kept []) (a s (frameOf l) .state) rest
+  abbrev next : List ℕ → LineSoFar → List ℕ → List ℕ → Talk
+  next t l s rest = talk a (t ++ a s (frameOfLine l) .text) (kept []) (a s (frameOfLine l) .state) rest
 
   -- what comes after a scan
   abbrev after : List ℕ → List ℕ → Scan → Talk
-  after t s (ended l rest) = next t l s rest
+  after t s (lineEnded l rest) = next t l s rest
   after t s (partly l) = record { text = t; line = l; state = s }
 
-  talk-scan : (t : List ℕ) (l : Line) (s i : List ℕ) → talk a t l s i ≡ after t s (scan l i)
+  talk-scan : (t : List ℕ) (l : LineSoFar) (s i : List ℕ) → talk a t l s i ≡ after t s (scan l i)
   unfolding talk scan
   talk-scan t l s [] = refl
   talk-scan t l s (c ∷ rest) =
       on
-      (λ (b : Bool). cond b (next t l s rest) (talk a t (more l c) s rest) ≡ after t s (cond b (ended l rest) (scan (more l c) rest)))
+      (λ (b : Bool). cond b (next t l s rest) (talk a t (more l c) s rest) ≡ after t s (cond b (lineEnded l rest) (scan (more l c) rest)))
       (eqb c 10)
       refl
       (talk-scan t (more l c) s rest)
 
   -- a turn that ended at an LF
-  pub turn-ended : (t t′ : List ℕ) (l l′ : Line) (s s′ rest input : List ℕ) (b : Bool) → b ≡ true → cond b (ended l′ rest) (partly l′) ≡ scan l input
-      → t′ ≡ t ++ a s (frameOf l′) .text → s′ ≡ a s (frameOf l′) .state
+  pub turn-ended : (t t′ : List ℕ) (l l′ : LineSoFar) (s s′ rest input : List ℕ) (b : Bool) → b ≡ true → cond b (lineEnded l′ rest) (partly l′) ≡ scan l input
+      → t′ ≡ t ++ a s (frameOfLine l′) .text → s′ ≡ a s (frameOfLine l′) .state
       → talk a t′ (kept []) s′ rest ≡ talk a t l s input
   turn-ended t t′ l l′ s s′ rest input b p q e f =
       rw (e, f)
-      (ap (after t s) (sym (ap (λ (x : Bool). cond x (ended l′ rest) (partly l′)) p) ∙ q)
+      (ap (after t s) (sym (ap (λ (x : Bool). cond x (lineEnded l′ rest) (partly l′)) p) ∙ q)
       ∙ sym (talk-scan t l s input))
 
   -- a turn that came to the end of its input
-  pub turn-partly : (t : List ℕ) (l l′ : Line) (s rest input : List ℕ) (b : Bool) → b ≡ false → cond b (ended l′ rest) (partly l′) ≡ scan l input → rest ≡ []
+  pub turn-partly : (t : List ℕ) (l l′ : LineSoFar) (s rest input : List ℕ) (b : Bool) → b ≡ false → cond b (lineEnded l′ rest) (partly l′) ≡ scan l input → rest ≡ []
       → talk a t l′ s rest ≡ talk a t l s input
   unfolding talk
   turn-partly t l l′ s rest input b p q e =
       ap (talk a t l′ s) e
-      ∙ ap (after t s) (sym (ap (λ (x : Bool). cond x (ended l′ rest) (partly l′)) p) ∙ q)
+      ∙ ap (after t s) (sym (ap (λ (x : Bool). cond x (lineEnded l′ rest) (partly l′)) p) ∙ q)
       ∙ sym (talk-scan t l s input)
 
   -- the end of the input: an open line that is not empty is answered
-  pub last-line : (n : ℕ) (line s : List ℕ) → length line ≡ longest → (n ≡ 0 → ⊥) → a s (frameOf (lineOf n line)) ≡ lastly a (lineOf n line) s
+  pub last-line : (n : ℕ) (line s : List ℕ) → length line ≡ longest → (n ≡ 0 → ⊥) → a s (frameOfLine (lineOf n line)) ≡ lastly a (lineOf n line) s
   last-line n line s e h =
       on
-      (λ (b : Bool). (leb n longest ≡ b → a s (frameOf (cond b (kept (take n line)) over)) ≡ lastly a (cond b (kept (take n line)) over) s))
+      (λ (b : Bool). (leb n longest ≡ b → a s (frameOfLine (cond b (kept (take n line)) over)) ≡ lastly a (cond b (kept (take n line)) over) s))
       (leb n longest)
       (λ p. some n line (omega arith) (omega arith))
       (λ p. refl)
       refl
     where
-      some : (m : ℕ) (l : List ℕ) → 0 < m → 0 < length l → a s (frameOf (kept (take m l))) ≡ lastly a (kept (take m l)) s
+      some : (m : ℕ) (l : List ℕ) → 0 < m → 0 < length l → a s (frameOfLine (kept (take m l))) ≡ lastly a (kept (take m l)) s
       some m [] x y = absurd (not-suc-le-zero y)
       some zero (x ∷ l) y z = absurd (not-suc-le-zero y)
       some (suc m) (x ∷ l) y z = refl
 
   -- a second piece of input goes on with what the first left
-  pub talk-append : (t : List ℕ) (l : Line) (s i j : List ℕ) → talk a t l s (i ++ j) ≡ talk a (talk a t l s i .text) (talk a t l s i .line) (talk a t l s i .state) j
+  pub talk-append : (t : List ℕ) (l : LineSoFar) (s i j : List ℕ) → talk a t l s (i ++ j) ≡ talk a (talk a t l s i .text) (talk a t l s i .line) (talk a t l s i .state) j
   unfolding talk
   talk-append t l s [] j = refl
   talk-append t l s (c ∷ i) j =
@@ -84,7 +84,7 @@ module _ (a : Way) where
       (cond x (next t l s i) (talk a t (more l c) s i) .state)
       j)
       (eqb c 10)
-      (talk-append (t ++ a s (frameOf l) .text) (kept []) (a s (frameOf l) .state) i j)
+      (talk-append (t ++ a s (frameOfLine l) .text) (kept []) (a s (frameOfLine l) .state) i j)
       (talk-append t (more l c) s i j)
 
   -- the same talk behind text that was written before
@@ -92,27 +92,27 @@ module _ (a : Way) where
   behind t k = record { text = t ++ k .text; line = k .line; state = k .state }
 
   -- what was written before stays in front, and changes nothing else
-  pub talk-text : (t : List ℕ) (l : Line) (s i : List ℕ) → talk a t l s i ≡ behind t (talk a [] l s i)
+  pub talk-text : (t : List ℕ) (l : LineSoFar) (s i : List ℕ) → talk a t l s i ≡ behind t (talk a [] l s i)
   unfolding talk
   talk-text t l s [] = rw append-nil
   talk-text t l s (c ∷ i) =
       on
       (λ (x : Bool). cond x (next t l s i) (talk a t (more l c) s i) ≡ behind t (cond x (next [] l s i) (talk a [] (more l c) s i)))
       (eqb c 10)
-      (talk-text (t ++ a s (frameOf l) .text) (kept []) (a s (frameOf l) .state) i
-      ∙ rw (talk-text (a s (frameOf l) .text) (kept []) (a s (frameOf l) .state) i, append-assoc))
+      (talk-text (t ++ a s (frameOfLine l) .text) (kept []) (a s (frameOfLine l) .state) i
+      ∙ rw (talk-text (a s (frameOfLine l) .text) (kept []) (a s (frameOfLine l) .state) i, append-assoc))
       (talk-text t (more l c) s i)
 
   -- what is written is the text so far, and then what would be written without it
-  pub wrote : (t : List ℕ) (l : Line) (s i : List ℕ) → closed a (talk a t l s i) ≡ t ++ closed a (talk a [] l s i)
-  wrote t l s i = ap (closed a) (talk-text t l s i) ∙ append-assoc t (talk a [] l s i .text) _
+  pub wrote : (t : List ℕ) (l : LineSoFar) (s i : List ℕ) → wholeText a (talk a t l s i) ≡ t ++ wholeText a (talk a [] l s i)
+  wrote t l s i = ap (wholeText a) (talk-text t l s i) ∙ append-assoc t (talk a [] l s i .text) _
 
   -- HOW THE INPUT IS CUT DOES NOT MATTER: chunks one after another get what they get as one
-  pub cut : (l : Line) (s : List ℕ) (cs : List (List ℕ)) → spokenIn a l s cs ≡ closed a (talk a [] l s (flatten cs))
+  pub cut : (l : LineSoFar) (s : List ℕ) (cs : List (List ℕ)) → spokenIn a l s cs ≡ wholeText a (talk a [] l s (flatten cs))
   unfolding talk spokenIn flatten
   cut l s [] = refl
   cut l s (c ∷ cs) =
       let k = talk a [] l s c in
       ap (λ (x : List ℕ). k .text ++ x) (cut (k .line) (k .state) cs)
       ∙ sym (wrote (k .text) (k .line) (k .state) (flatten cs))
-      ∙ ap (closed a) (sym (talk-append [] l s c (flatten cs)))
+      ∙ ap (wholeText a) (sym (talk-append [] l s c (flatten cs)))

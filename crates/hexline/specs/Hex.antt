@@ -17,37 +17,37 @@ valueOf c =
 -- what a text can stand for: bytes, or nothing
 pub data Read : Type 0 where
   bytes : List ℕ → Read
-  faulty : Read
+  faultyText : Read
 
 -- x in front of what the rest of a text stands for
 abbrev pub front : ℕ → Read → Read
 front x (bytes xs) = bytes (x ∷ xs)
-front x faulty = faulty
+front x faultyText = faultyText
 
 -- xs in front of what the rest of a text stands for
-abbrev pub fronts : List ℕ → Read → Read
-fronts xs (bytes ys) = bytes (xs ++ ys)
-fronts xs faulty = faulty
+abbrev pub bytesInFront : List ℕ → Read → Read
+bytesInFront xs (bytes ys) = bytes (xs ++ ys)
+bytesInFront xs faultyText = faultyText
 
 -- two digits of the values h and l, and then what r says; a value of 16 is no digit
 abbrev pub pair : ℕ → ℕ → Read → Read
-pair h l r = cond (ltb h 16) (cond (ltb l 16) (front (h * 16 + l) r) faulty) faulty
+pair h l r = cond (ltb h 16) (cond (ltb l 16) (front (h * 16 + l) r) faultyText) faultyText
 
 -- the bytes of a text, two digits to a byte, the high one first; faulty for an odd count or a character that is no digit
 unfoldable pub readHex : List ℕ → Read
 readHex [] = bytes []
-readHex (a ∷ []) = faulty
+readHex (a ∷ []) = faultyText
 readHex (a ∷ b ∷ rest) = pair (valueOf a) (valueOf b) (readHex rest)
 
 -- what an answer says of the buffer out
-abbrev pub said : Decoded → List ℕ → Read
-said (Bytes n) out = bytes (take n out)
-said Faulty out = faulty
+abbrev pub readIn : Decoded → List ℕ → Read
+readIn (Bytes n) out = bytes (take n out)
+readIn Faulty out = faultyText
 
 -- how many bytes an answer counts
-abbrev pub countOf : Decoded → ℕ
-countOf (Bytes n) = n
-countOf Faulty = 0
+abbrev pub byteCount : Decoded → ℕ
+byteCount (Bytes n) = n
+byteCount Faulty = 0
 
 -- the capital digit of a value below 16
 abbrev pub digitOf : ℕ → ℕ

@@ -7,24 +7,24 @@ use mathlib.Core.List.{List, [], _∷_, _++_}
 use lib.Dec.{leb, ltb, eqb}
 use lib.ListN.{take, drop, length}
 use Rattle.hexline.specs.declared.Gathered.{Gathered}
-use Rattle.hexline.specs.Hex.{Read, bytes, faulty, readHex}
+use Rattle.hexline.specs.Hex.{Read, bytes, faultyText, readHex}
 
 -- "at most 1,028 digits"
 abbrev pub longest : ℕ
 longest = 1028
 
 -- a line so far: its characters, or that there were more than `longest`
-pub data Line : Type 0 where
-  kept : List ℕ → Line
-  over : Line
+pub data LineSoFar : Type 0 where
+  kept : List ℕ → LineSoFar
+  over : LineSoFar
 
 -- one character more
-abbrev pub more : Line → ℕ → Line
+abbrev pub more : LineSoFar → ℕ → LineSoFar
 more (kept l) c = cond (ltb (length l) longest) (kept (l ++ (c ∷ []))) over
 more over c = over
 
 -- what a count and a buffer hold: the count `longest + 1` stands for any line that is too long
-abbrev pub lineOf : ℕ → List ℕ → Line
+abbrev pub lineOf : ℕ → List ℕ → LineSoFar
 lineOf n buf = cond (leb n longest) (kept (take n buf)) over
 
 -- the buffers that a line of n characters needs: one for its characters, and one for its frame
@@ -35,16 +35,16 @@ pub record Buffers (n : ℕ) (line frame : List ℕ) : Type 0 where
 
 -- what comes of a line so far and a piece of input: the line, ended by an LF, and the input after it, or the line still open
 pub data Scan : Type 0 where
-  ended : Line → List ℕ → Scan
-  partly : Line → Scan
+  lineEnded : LineSoFar → List ℕ → Scan
+  partly : LineSoFar → Scan
 
-unfoldable pub scan : Line → List ℕ → Scan
+unfoldable pub scan : LineSoFar → List ℕ → Scan
 scan l [] = partly l
-scan l (c ∷ rest) = cond (eqb c 10) (ended l rest) (scan (more l c) rest)
+scan l (c ∷ rest) = cond (eqb c 10) (lineEnded l rest) (scan (more l c) rest)
 
 -- what an answer says of the buffer and the chunk
-abbrev pub gathered : Gathered → List ℕ → List ℕ → Scan
-gathered g buf chunk = cond (g .ended) (ended (lineOf (g .n) buf) (drop (g .at) chunk)) (partly (lineOf (g .n) buf))
+abbrev pub scanned : Gathered → List ℕ → List ℕ → Scan
+scanned g buf chunk = cond (g .ended) (lineEnded (lineOf (g .n) buf) (drop (g .at) chunk)) (partly (lineOf (g .n) buf))
 
 -- where a scan from `from` of a chunk of that length stopped: past where it began unless that was the end, and at the end
 -- unless at an LF
@@ -58,9 +58,9 @@ pub record Stopped (from size : ℕ) (g : Gathered) : Type 0 where
 -- the bytes that a text stands for, none where it is faulty
 abbrev pub bytesOr : Read → List ℕ
 bytesOr (bytes xs) = xs
-bytesOr faulty = []
+bytesOr faultyText = []
 
 -- "A faulty or over-long line counts as an empty frame."
-abbrev pub frameOf : Line → List ℕ
-frameOf (kept l) = bytesOr (readHex l)
-frameOf over = []
+abbrev pub frameOfLine : LineSoFar → List ℕ
+frameOfLine (kept l) = bytesOr (readHex l)
+frameOfLine over = []

@@ -4,7 +4,7 @@ use Prim.Native.Nat.{ℕ}
 use mathlib.Core.Bool.{cond}
 use mathlib.Core.List.{List, [], _∷_, _++_}
 use lib.Dec.{eqb}
-use Rattle.hexline.specs.Lines.{Line, kept, over, more, frameOf}
+use Rattle.hexline.specs.Lines.{LineSoFar, kept, over, more, frameOfLine}
 
 -- what a frame gets: the text of its answer, and the state that is left
 pub record Answer : Type 0 where
@@ -18,33 +18,33 @@ Way = List ℕ → List ℕ → Answer
 -- the text written so far, the line still open, and the state
 pub record Talk : Type 0 where
   pub text : List ℕ
-  pub line : Line
+  pub line : LineSoFar
   pub state : List ℕ
 
 -- what comes of the text t, the open line l, the state s and more input: each LF ends a line, and the line's frame is answered
-unfoldable pub talk : Way → List ℕ → Line → List ℕ → List ℕ → Talk
+unfoldable pub talk : Way → List ℕ → LineSoFar → List ℕ → List ℕ → Talk
 talk a t l s [] = record { text = t; line = l; state = s }
 talk a t l s (c ∷ rest) =
     cond (eqb c 10)
-    (talk a (t ++ a s (frameOf l) .text) (kept []) (a s (frameOf l) .state) rest)
+    (talk a (t ++ a s (frameOfLine l) .text) (kept []) (a s (frameOfLine l) .state) rest)
     (talk a t (more l c) s rest)
 
 -- "a last line may lack it if not empty": what an open line still gets when the input ends
-abbrev pub lastly : Way → Line → List ℕ → Answer
+abbrev pub lastly : Way → LineSoFar → List ℕ → Answer
 lastly a (kept []) s = record { text = []; state = s }
-lastly a (kept (c ∷ l)) s = a s (frameOf (kept (c ∷ l)))
-lastly a over s = a s (frameOf over)
+lastly a (kept (c ∷ l)) s = a s (frameOfLine (kept (c ∷ l)))
+lastly a over s = a s (frameOfLine over)
 
 -- the text with what the open line still gets
-abbrev pub closed : Way → Talk → List ℕ
-closed a k = k .text ++ lastly a (k .line) (k .state) .text
+abbrev pub wholeText : Way → Talk → List ℕ
+wholeText a k = k .text ++ lastly a (k .line) (k .state) .text
 
 -- all that is written for a whole input
 abbrev pub spoken : Way → List ℕ → List ℕ → List ℕ
-spoken a s input = closed a (talk a [] (kept []) s input)
+spoken a s input = wholeText a (talk a [] (kept []) s input)
 
 -- all that is written where the input comes in chunks, and each chunk goes on with the line and the state that are left
-unfoldable pub spokenIn : Way → Line → List ℕ → List (List ℕ) → List ℕ
+unfoldable pub spokenIn : Way → LineSoFar → List ℕ → List (List ℕ) → List ℕ
 spokenIn a l s [] = lastly a l s .text
 spokenIn a l s (c ∷ cs) =
     talk a [] l s c .text ++ spokenIn a (talk a [] l s c .line) (talk a [] l s c .state) cs

@@ -4,8 +4,8 @@ ghost use mathlib.Core.Path.{_≡_};
 ghost use mathlib.Core.List.{List, _++_};
 ghost use Prim.Native.Nat.{ℕ, _+_, _*_, _≤_, _<_};
 ghost use lib.ListN.{length, take, drop};
-ghost use Rattle.hexline.specs.Hex.{valueOf, readHex, said, countOf, digitOf, hexOf, decimalOf};
-ghost use Rattle.hexline.specs.Lines.{longest, Buffers, lineOf, scan, gathered, Stopped, frameOf};
+ghost use Rattle.hexline.specs.Hex.{valueOf, readHex, readIn, byteCount, digitOf, hexOf, decimalOf};
+ghost use Rattle.hexline.specs.Lines.{longest, Buffers, lineOf, scan, scanned, Stopped, frameOfLine};
 
 // The most characters of a line that counts, as `longest` says. A line that has more is kept as the count LONGEST + 1.
 const LONGEST: usize = 1028;
@@ -37,8 +37,8 @@ pub enum Decoded {
 // What stands in out past the answer's count, or at all after Faulty, is not said.
 pub fn decode(s: &[u8], out: &mut [u8]) -> Decoded
     requires { ⌜ length (now s) ≤ 2 * length (now out) ⌝ }
-    ensures { λ r. ⌜ countOf r ≤ length (now (out .entry)) ⌝ }
-    ensures { λ r. ⌜ said r (now (out .exit)) ≡ readHex (now (s .entry)) ⌝ }
+    ensures { λ r. ⌜ byteCount r ≤ length (now (out .entry)) ⌝ }
+    ensures { λ r. ⌜ readIn r (now (out .exit)) ≡ readHex (now (s .entry)) ⌝ }
 {
     let mut i = 0;
     let mut n = 0;
@@ -113,7 +113,7 @@ pub struct Gathered {
 fn skip(chunk: &[u8], from: usize, n: usize) -> Gathered
     requires { ⌜ (from ≤ length (now chunk)) × (longest ≤ n) × (n ≤ longest + 1) ⌝ }
     ensures { λ r. ⌜ Stopped from (length (now (chunk .entry))) r ⌝ }
-    ensures { λ r. ⌜ ((line : List ℕ) → length line ≡ longest → gathered r line (now (chunk .entry)) ≡ scan (lineOf n line) (drop from (now (chunk .entry)))) ⌝ }
+    ensures { λ r. ⌜ ((line : List ℕ) → length line ≡ longest → scanned r line (now (chunk .entry)) ≡ scan (lineOf n line) (drop from (now (chunk .entry)))) ⌝ }
 {
     let mut i = from;
     let mut k = n;
@@ -140,7 +140,7 @@ fn skip(chunk: &[u8], from: usize, n: usize) -> Gathered
 pub fn gather(chunk: &[u8], from: usize, n: usize, line: &mut [u8]) -> Gathered
     requires { ⌜ (from ≤ length (now chunk)) × (n ≤ longest + 1) × (length (now line) ≡ longest) ⌝ }
     ensures { λ r. ⌜ Stopped from (length (now (chunk .entry))) r ⌝ }
-    ensures { λ r. ⌜ gathered r (now (line .exit)) (now (chunk .entry)) ≡ scan (lineOf n (now (line .entry))) (drop from (now (chunk .entry))) ⌝ }
+    ensures { λ r. ⌜ scanned r (now (line .exit)) (now (chunk .entry)) ≡ scan (lineOf n (now (line .entry))) (drop from (now (chunk .entry))) ⌝ }
 {
     let mut i = from;
     let mut k = n;
@@ -171,7 +171,7 @@ pub fn gather(chunk: &[u8], from: usize, n: usize, line: &mut [u8]) -> Gathered
 pub fn frame_of(line: &[u8], n: usize, frame: &mut [u8]) -> usize
     requires { ⌜ Buffers n (now line) (now frame) ⌝ }
     ensures { λ r. ⌜ r ≤ length (now (frame .entry)) ⌝ }
-    ensures { λ r. ⌜ take r (now (frame .exit)) ≡ frameOf (lineOf n (now (line .entry))) ⌝ }
+    ensures { λ r. ⌜ take r (now (frame .exit)) ≡ frameOfLine (lineOf n (now (line .entry))) ⌝ }
 {
     if LONGEST < n {
         return 0;

@@ -10,7 +10,7 @@ use lib.Count.{ones, ones-step}
 use Rattle.paper.specs.Status.{bit, bitOf}
 use Rattle.paper.specs.Impact.{noComparison, compared, ones as onesOf}
 use Rattle.paper.proofs.Labels.{bit-le, bit-back}
-use Rattle.impact.specs.Window.{windowOf, moved}
+use Rattle.impact.specs.Window.{windowOf, windowAfter}
 
 -- zero is the window of which every comparison is missing
 pub windowOf-zero : windowOf 0 ≡ noComparison
@@ -21,9 +21,9 @@ lowest : (x q d : ℕ) → x ≡ 2 * q + d → d % 2 ≡ x % 2
 lowest x q d e = sym (ap (λ (n : ℕ). n % 2) e ∙ mul-add-mod-self-left 2 q d)
 
 -- a comparison more; whatever stood above the five bits falls out too
-pub windowOf-moved : (w : ℕ) (b : Bool) → windowOf (moved w b) ≡ compared b (windowOf w)
+pub windowOf-moved : (w : ℕ) (b : Bool) → windowOf (windowAfter w b) ≡ compared b (windowOf w)
 windowOf-moved w b =
-    let r : ℕ = moved w b in
+    let r : ℕ = windowAfter w b in
     let out : ℕ = w / 16 in
     let l = bit-le b in
     let e0 : r / 1 % 2 ≡ bit b = omega arith in
@@ -50,9 +50,9 @@ ones-from w k =
     ∙ ap (λ (n : ℕ). cond (bitOf w k) 1 0 + ones n) rest
 
 -- the ones of a window's byte are those of the window
-pub counted : (w : ℕ) → w < 32 → ones w ≡ onesOf (windowOf w)
+pub ones-counted : (w : ℕ) → w < 32 → ones w ≡ onesOf (windowOf w)
 unfolding ones
-counted w h =
+ones-counted w h =
     let none : w / 32 ≡ 0 = omega arith in
     ap ones (sym (div-one w))
     ∙ ones-from w 0

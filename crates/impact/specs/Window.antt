@@ -10,5 +10,5 @@ abbrev pub windowOf : ℕ → List Bool
 windowOf w = bitOf w 0 ∷ bitOf w 1 ∷ bitOf w 2 ∷ bitOf w 3 ∷ bitOf w 4 ∷ []
 
 -- the byte with a comparison more: the oldest of five falls out
-abbrev pub moved : ℕ → Bool → ℕ
-moved w above = (w * 2 + bit above) % 32
+abbrev pub windowAfter : ℕ → Bool → ℕ
+windowAfter w above = (w * 2 + bit above) % 32

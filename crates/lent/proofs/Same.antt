@@ -1,6 +1,6 @@
 -- Two lists that agree on some bytes: a store elsewhere leaves them so, and numbers and parts that are read there are the same.
 -- Assumes nothing.
-use mathlib.Core.Path.{_≡_, refl, sym, _∙_}
+use mathlib.Core.Path.{_≡_, refl, _∙_}
 use mathlib.Core.List.{List, [], _∷_, _++_}
 use mathlib.Core.Logic.{_⊎_, ⊎-elim}
 use Prim.Native.Nat.{ℕ, zero, suc, _+_, _*_, _≤_, _<_}
@@ -19,9 +19,6 @@ pub record Same (x y : List ℕ) (lo hi : ℕ) : Type 0 where
 
 pub same-refl : (x : List ℕ) (lo hi : ℕ) → Same x x lo hi
 same-refl x lo hi = record { byte = λ i l h. refl }
-
-pub same-sym : {x y : List ℕ} {lo hi : ℕ} → Same x y lo hi → Same y x lo hi
-same-sym p = record { byte = λ i l h. sym (p .byte i l h) }
 
 pub same-trans : {x y z : List ℕ} {lo hi : ℕ} → Same x y lo hi → Same y z lo hi → Same x z lo hi
 same-trans p q = record { byte = λ i l h. p .byte i l h ∙ q .byte i l h }

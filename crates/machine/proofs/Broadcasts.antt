@@ -1,14 +1,14 @@
--- An accepted broadcast: the bytes after its words are stored, and after the mode rule, hold document 01's controller, and fit.
+-- An accepted broadcast: the bytes after its words are stored, and after the mode rule, hold document 01's controller.
 -- Assumes nothing.
 use mathlib.Core.Path.{_≡_, refl, ap, _∙_}
 use mathlib.Core.Bool.{Bool, true, false, cond}
 use mathlib.Core.List.{List, [], _∷_, _++_}
-use Prim.Native.Nat.{ℕ, _+_, _≤_, _<_}
+use Prim.Native.Nat.{ℕ, _+_, _≤_}
 use native.Mathlib.Omega.{arith}
 use lib.Dec.{leb}
 use lib.ListN.{length}
 use Rattle.wire.specs.Wire.{be16, bytes16, put, raisedOn}
-use Rattle.wire.proofs.Runs.{length-put, getD-put-inside, be16-put-inside, be16-bytes16}
+use Rattle.wire.proofs.Runs.{getD-put-inside, be16-put-inside, be16-bytes16}
 use Rattle.clock.proofs.Numbers.{nibble-mode, nibble-locked, nibble-small}
 use Rattle.paper.specs.Frames.{Channel}
 use Rattle.paper.specs.Clock.{seconds}
@@ -16,18 +16,19 @@ use Rattle.paper.specs.Mode.{Mode, nibble, same, ruled}
 use Rattle.paper.specs.Controller.{Controller, withClock}
 use Rattle.paper.specs.Acts.{heard, enter, moved}
 use Rattle.paper.specs.Step.{lateHeard}
-use Rattle.state.specs.Layout.{timeAt, mAt, broadcastsAt}
-use Rattle.state.specs.View.{clockIn, standingIn, impactIn, view}
-use Rattle.state.specs.Range.{Fit}
+use Rattle.state.specs.Layout.{timeAt, broadcastsAt, altitudeAt}
+use Rattle.state.specs.View.{clockIn, standingIn, impactIn, view, capped, mIn}
+use Rattle.state.specs.Range.{Whole}
 use Rattle.machine.specs.Entered.{enteredOn}
 use Rattle.machine.specs.Heard.{heardOn, seenIn, movedOn}
-use Rattle.machine.proofs.Same.{view-clocked, fit-clocked}
-use Rattle.machine.proofs.Entries.{entered-view, entered-fit, entered-length}
-use Rattle.machine.proofs.Counts.{broadcasts-at, late-view, late-fit, raised-length}
+use Rattle.machine.proofs.Past.{past-whole, broadcasts-at, raised-past}
+use Rattle.machine.proofs.Same.{view-clocked}
+use Rattle.machine.proofs.Entries.{entered-view}
+use Rattle.machine.proofs.Counts.{late-view}
 
 -- ---- "raises its count, stores its words (altitude bit 15 included), sets m to 0"
 
-module _ (s : List ℕ) (f : Fit s) (cc : Channel) (time altitude spin phase : ℕ) where
+module _ (s : List ℕ) (f : Whole s) (cc : Channel) (time altitude spin phase : ℕ) where
   -- the bytes with the count raised, and the words that are stored in them
   abbrev up : List ℕ
   up = raisedOn s (broadcastsAt cc)
@@ -35,20 +36,24 @@ module _ (s : List ℕ) (f : Fit s) (cc : Channel) (time altitude spin phase : �
   abbrev words : List ℕ
   words = bytes16 time ++ (bytes16 altitude ++ (spin ∷ phase ∷ 0 ∷ 0 ∷ []))
 
-  words-fit : timeAt + 8 ≤ length up
-  words-fit = omega (arith, late-fit s f cc .whole)
+  up-whole : Whole up
+  up-whole = past-whole (raised-past s (broadcastsAt cc) (broadcasts-at cc) f) f
 
-  m-zero : be16 (put up timeAt words) mAt ≡ 0
-  m-zero = be16-put-inside up timeAt words words-fit 6 (omega arith)
+  words-fit : timeAt + 8 ≤ length up
+  words-fit = omega (arith, up-whole)
+
+  m-zero : mIn (put up timeAt words) ≡ 0
+  unfolding capped
+  m-zero = ap (capped 1023) (be16-put-inside up timeAt words words-fit 6 (omega arith))
 
   pub heard-view : view (heardOn s cc time altitude spin phase) ≡ heard (view s) cc time altitude spin phase
   unfolding heardOn heard lateHeard clockIn
   heard-view =
-      let first : be16 (put up timeAt words) 0 ≡ time =
+      let first : be16 (put up timeAt words) timeAt ≡ time =
       be16-put-inside up timeAt words words-fit 0 (omega arith) ∙ be16-bytes16 time in
-      let second : be16 (put up timeAt words) 2 ≡ altitude =
+      let second : be16 (put up timeAt words) altitudeAt ≡ altitude =
       be16-put-inside up timeAt words words-fit 2 (omega arith) ∙ be16-bytes16 altitude in
-      view-clocked up (late-fit s f cc) timeAt words (omega arith) (omega arith)
+      view-clocked up up-whole timeAt words (omega arith) (omega arith)
       (λ i.
       record {
         time = first i;
@@ -62,17 +67,9 @@ module _ (s : List ℕ) (f : Fit s) (cc : Channel) (time altitude spin phase : �
       withClock c (record { time = time; altitude = altitude; spin = spin; phase = phase; m = 0 }))
       (late-view s f cc)
 
-  pub heard-fit : Fit (heardOn s cc time altitude spin phase)
-  unfolding heardOn
-  heard-fit = fit-clocked up (late-fit s f cc) timeAt words (omega arith) (omega arith) (omega (arith, m-zero))
-
-  pub heard-length : length (heardOn s cc time altitude spin phase) ≡ length s
-  unfolding heardOn
-  heard-length = length-put up timeAt words words-fit ∙ raised-length s f (broadcastsAt cc) (broadcasts-at cc)
-
 -- ---- "then, if unlocked:" the mode rule
 
-module _ (s : List ℕ) (f : Fit s) where
+module _ (s : List ℕ) (f : Whole s) where
   -- the mode that it leads to, the same with its lock, and T
   abbrev led : Mode
   led = ruled (standingIn s) (seenIn s)
@@ -90,22 +87,6 @@ module _ (s : List ℕ) (f : Fit s) where
       at : (b : Bool) → view (cond b s (enteredOn s code t)) ≡ cond b (view s) (enter (view s) led (standingIn s .locked) t)
       at true = refl
       at false =
-          entered-view s f code t
+          entered-view s f code t (nibble-small led (standingIn s .locked))
           ∙ ap (λ (m : Mode). enter (view s) m (leb 8 code) t) (nibble-mode led (standingIn s .locked))
           ∙ ap (λ (b : Bool). enter (view s) led b t) (nibble-locked led (standingIn s .locked))
-
-  pub moved-fit : Fit (movedOn s)
-  unfolding movedOn
-  moved-fit = at (same led (standingIn s .mode))
-    where
-      at : (c : Bool) → Fit (cond c s (enteredOn s code t))
-      at true = f
-      at false = entered-fit s f code t (nibble-small led (standingIn s .locked))
-
-  pub moved-length : length (movedOn s) ≡ length s
-  unfolding movedOn
-  moved-length = at (same led (standingIn s .mode))
-    where
-      at : (b : Bool) → length (cond b s (enteredOn s code t)) ≡ length s
-      at true = refl
-      at false = entered-length s f code t

@@ -1,5 +1,5 @@
 -- Counts that are raised, and the marks of commands and of housekeeping: the bytes after each store hold document 01's controller
--- after it, and fit. Assumes nothing.
+-- after it. Assumes nothing.
 use mathlib.Core.Path.{_≡_, refl, ap, _∙_}
 use mathlib.Core.Bool.{Bool, true, false, cond}
 use mathlib.Core.List.{List, [], _∷_}
@@ -12,24 +12,25 @@ use lib.Dec.{eqb}
 use lib.ListN.{length, getD}
 use borrow.Author.Tests.{eqb-true, eqb-false}
 use Rattle.wire.specs.Wire.{be16, bytes16, put, raisedOn}
-use Rattle.wire.proofs.Runs.{length-put, getD-put-before, getD-put-inside, getD-put-after, be16-put-before, be16-put-after, be16-put-same, part-put-same}
+use Rattle.wire.proofs.Runs.{getD-put-before, getD-put-inside, getD-put-after, be16-put-before, be16-put-after, be16-put-same, part-put-same}
 use Rattle.paper.specs.Frames.{Channel, cdmuA, cdmuB}
 use Rattle.paper.specs.Controller.{raised, raised8, raisedAt, Tallies, withPackets, withTelemetry, withCommands, withError, withLast, Controller, withTallies, withHoused}
 use Rattle.paper.specs.Acts.{noted}
 use Rattle.paper.specs.Step.{lateHeard, erred}
-use Rattle.state.specs.Layout.{commandsAt, broadcastsAt, packetsAt, telemetryAt, errorsAt, codeAt, sequenceAt, idAt, firstAt, waitingAt, housedAt, openAt, stateBytes}
-use Rattle.state.specs.View.{talliesIn, piecesIn, view}
-use Rattle.state.specs.Range.{Fit}
+use Rattle.state.specs.Layout.{commandsAt, broadcastsAt, packetsAt, telemetryAt, errorsAt, codeAt, sequenceAt, idAt, firstAt, housedAt}
+use Rattle.state.specs.View.{talliesIn, piecesIn, view, firstIn, waitingIn}
+use Rattle.state.specs.Range.{Whole}
 use Rattle.lent.proofs.Same.{Same, put-same, be16-same}
-use Rattle.state.proofs.Apart.{fit-same, clock-apart, standing-apart, impact-apart, tallies-apart, first-apart, waiting-apart, counts-apart, opened-apart, pieces-apart}
+use Rattle.state.proofs.Apart.{clock-apart, standing-apart, impact-apart, tallies-apart, first-apart, waiting-apart, counts-apart, opened-apart, pieces-apart}
 use Rattle.machine.specs.Obeyed.{notedOn, erredOn}
-use Rattle.machine.proofs.Same.{view-tallied, fit-tallied}
+use Rattle.machine.proofs.Past.{past-whole, packets-at, raised-past}
+use Rattle.machine.proofs.Same.{view-tallied}
 
--- ---- a count that is raised: one of the seven that stand at 27, 29 and so on
+-- ---- a count that is raised: one of the seven of two bytes each
 
 -- where the k-th of them stands
 abbrev place : ℕ → ℕ
-place k = 27 + 2 * k
+place k = commandsAt + 2 * k
 
 -- the count at a place, where the one at another may have been raised
 abbrev count : List ℕ → (raisedPlace at : ℕ) → ℕ
@@ -43,17 +44,17 @@ up s at = bytes16 (raised (be16 s at))
 abbrev tallied : List ℕ → ℕ → Tallies
 tallied s r =
     record {
-      broadcasts = record { a = count s r 29; b = count s r 31 };
-      packets = record { a = count s r 33; b = count s r 35 };
-      telemetry = record { a = count s r 37; b = count s r 39 };
-      commands = count s r 27;
+      broadcasts = record { a = count s r (broadcastsAt cdmuA); b = count s r (broadcastsAt cdmuB) };
+      packets = record { a = count s r (packetsAt cdmuA); b = count s r (packetsAt cdmuB) };
+      telemetry = record { a = count s r (telemetryAt cdmuA); b = count s r (telemetryAt cdmuB) };
+      commands = count s r commandsAt;
       errors = getD s errorsAt 0;
       code = getD s codeAt 0;
       sequence = getD s sequenceAt 0;
       id = getD s idAt 0;
     }
 
-module _ (s : List ℕ) (f : Fit s) (k : ℕ) (h : k < 7) where
+module _ (s : List ℕ) (f : Whole s) (k : ℕ) (h : k < 7) where
   fits : place k + 2 ≤ length s
   fits = omega arith
 
@@ -75,7 +76,7 @@ module _ (s : List ℕ) (f : Fit s) (k : ℕ) (h : k < 7) where
           rw same (be16-put-same s (place k) (raised (be16 s (place k))) (omega arith))
       at false e = apart (decLt j k) (λ same. eqb-false (place j) (place k) e (ap place same))
 
-  mark : (i : ℕ) → 41 ≤ i → getD (raisedOn s (place k)) i 0 ≡ getD s i 0
+  mark : (i : ℕ) → errorsAt ≤ i → getD (raisedOn s (place k)) i 0 ≡ getD s i 0
   unfolding raisedOn
   mark i l = getD-put-after s (place k) (up s (place k)) fits i (omega arith)
 
@@ -98,44 +99,14 @@ module _ (s : List ℕ) (f : Fit s) (k : ℕ) (h : k < 7) where
   raised-view =
       view-tallied s f (place k) (up s (place k)) (omega arith) (omega arith) tallies-raised
 
--- a place of a count
-pub record Count (at : ℕ) : Type 0 where
-  pub low : commandsAt ≤ at
-  pub high : at + 2 ≤ errorsAt
-
-pub broadcasts-at : (cc : Channel) → Count (broadcastsAt cc)
-broadcasts-at cdmuA = omega arith
-broadcasts-at cdmuB = omega arith
-
-pub packets-at : (cc : Channel) → Count (packetsAt cc)
-packets-at cdmuA = omega arith
-packets-at cdmuB = omega arith
-
-pub telemetry-at : (cc : Channel) → Count (telemetryAt cc)
-telemetry-at cdmuA = omega arith
-telemetry-at cdmuB = omega arith
-
--- a count that is raised keeps ranges and length
-module _ (s : List ℕ) (f : Fit s) (at : ℕ) (c : Count at) where
-  pub raised-fit : Fit (raisedOn s at)
-  unfolding raisedOn
-  raised-fit = fit-tallied s f at (up s at) (omega arith) (c .low)
-
-  pub raised-length : length (raisedOn s at) ≡ length s
-  unfolding raisedOn
-  raised-length = length-put s at (up s at) (omega arith)
-
 -- ---- the four kinds of count
 
-module _ (s : List ℕ) (f : Fit s) where
+module _ (s : List ℕ) (f : Whole s) where
   -- "A broadcast refused with 5 raises only its channel's broadcast count."
   pub late-view : (cc : Channel) → view (raisedOn s (broadcastsAt cc)) ≡ lateHeard (view s) cc
   unfolding lateHeard view talliesIn
   late-view cdmuA = raised-view s f 1 (omega arith)
   late-view cdmuB = raised-view s f 2 (omega arith)
-
-  pub late-fit : (cc : Channel) → Fit (raisedOn s (broadcastsAt cc))
-  late-fit cc = raised-fit s f (broadcastsAt cc) (broadcasts-at cc)
 
   -- a channel's command packets
   pub packets-view : (cc : Channel) → view (raisedOn s (packetsAt cc))
@@ -159,7 +130,7 @@ module _ (s : List ℕ) (f : Fit s) where
 
 -- ---- the marks of commands, and of refusals
 
-module _ (s : List ℕ) (f : Fit s) (at : ℕ) (v : List ℕ) (low : 41 ≤ at) (high : at + length v ≤ firstAt) where
+module _ (s : List ℕ) (f : Whole s) (at : ℕ) (v : List ℕ) (low : errorsAt ≤ at) (high : at + length v ≤ firstAt) where
   -- a store among them
   marked-view : {e c q n : ℕ} → getD (put s at v) errorsAt 0 ≡ e → getD (put s at v) codeAt 0 ≡ c
       → getD (put s at v) sequenceAt 0 ≡ q → getD (put s at v) idAt 0 ≡ n
@@ -167,23 +138,23 @@ module _ (s : List ℕ) (f : Fit s) (at : ℕ) (v : List ℕ) (low : 41 ≤ at) 
       ≡ withTallies (view s) (withLast (withError (view s .tallies) e c) q n)
   unfolding view talliesIn
   marked-view e c q n =
-      let p : Same (put s at v) s 27 41 = put-same s at v (omega arith) 27 41 (inr low) in
+      let p : Same (put s at v) s commandsAt errorsAt = put-same s at v (omega arith) commandsAt errorsAt (inr low) in
       view-tallied s f at v high (omega arith)
       (λ i.
       record {
         broadcasts =
-            record { a = be16-same p 29 (omega arith) (omega arith) i; b = be16-same p 31 (omega arith) (omega arith) i };
-        packets = record { a = be16-same p 33 (omega arith) (omega arith) i; b = be16-same p 35 (omega arith) (omega arith) i };
+            record { a = be16-same p (broadcastsAt cdmuA) (omega arith) (omega arith) i; b = be16-same p (broadcastsAt cdmuB) (omega arith) (omega arith) i };
+        packets = record { a = be16-same p (packetsAt cdmuA) (omega arith) (omega arith) i; b = be16-same p (packetsAt cdmuB) (omega arith) (omega arith) i };
         telemetry =
-            record { a = be16-same p 37 (omega arith) (omega arith) i; b = be16-same p 39 (omega arith) (omega arith) i };
-        commands = be16-same p 27 (omega arith) (omega arith) i;
+            record { a = be16-same p (telemetryAt cdmuA) (omega arith) (omega arith) i; b = be16-same p (telemetryAt cdmuB) (omega arith) (omega arith) i };
+        commands = be16-same p commandsAt (omega arith) (omega arith) i;
         errors = e i;
         code = c i;
         sequence = q i;
         id = n i;
       })
 
-module _ (s : List ℕ) (f : Fit s) (cc : Channel) where
+module _ (s : List ℕ) (f : Whole s) (cc : Channel) where
   -- the bytes with the packet count raised, and then with the command count
   abbrev once : List ℕ
   once = raisedOn s (packetsAt cc)
@@ -191,17 +162,17 @@ module _ (s : List ℕ) (f : Fit s) (cc : Channel) where
   abbrev twice : List ℕ
   twice = raisedOn once commandsAt
 
-  once-fit : Fit once
-  once-fit = raised-fit s f (packetsAt cc) (packets-at cc)
+  once-whole : Whole once
+  once-whole = past-whole (raised-past s (packetsAt cc) (packets-at cc) f) f
 
-  twice-fit : Fit twice
-  twice-fit = raised-fit once once-fit commandsAt (omega arith)
+  twice-whole : Whole twice
+  twice-whole = past-whole (raised-past once commandsAt (omega arith) once-whole) once-whole
 
   twice-view : view twice
       ≡ withTallies (view s)
       (withCommands (withPackets (view s .tallies) (raisedAt cc (view s .tallies .packets))) (raised (view s .tallies .commands)))
   twice-view =
-      commands-view once once-fit
+      commands-view once once-whole
       ∙ ap (λ (c : Controller). withTallies c (withCommands (c .tallies) (raised (c .tallies .commands)))) (packets-view s f cc)
 
   module _ (id sequence : ℕ) where
@@ -209,12 +180,12 @@ module _ (s : List ℕ) (f : Fit s) (cc : Channel) where
     low = sequence % 256 ∷ id % 256 ∷ []
 
     low-fits : sequenceAt + 2 ≤ length twice
-    low-fits = omega (arith, twice-fit .whole)
+    low-fits = omega (arith, twice-whole)
 
     pub noted-view : view (notedOn s cc id sequence) ≡ noted (view s) cc id sequence
     unfolding notedOn noted view talliesIn
     noted-view =
-        marked-view twice twice-fit sequenceAt low (omega arith) (omega arith)
+        marked-view twice twice-whole sequenceAt low (omega arith) (omega arith)
         (getD-put-before twice sequenceAt low low-fits errorsAt (omega arith))
         (getD-put-before twice sequenceAt low low-fits codeAt (omega arith))
         (getD-put-inside twice sequenceAt low low-fits 0 (omega arith))
@@ -222,28 +193,17 @@ module _ (s : List ℕ) (f : Fit s) (cc : Channel) where
         ∙ ap
         (λ (c : Controller). withTallies c (withLast (c .tallies) (sequence % 256) (id % 256))) twice-view
 
-    pub noted-fit : Fit (notedOn s cc id sequence)
-    unfolding notedOn
-    noted-fit = fit-tallied twice twice-fit sequenceAt low (omega arith) (omega arith)
-
-    pub noted-length : length (notedOn s cc id sequence) ≡ length s
-    unfolding notedOn
-    noted-length =
-        length-put twice sequenceAt low low-fits
-        ∙ raised-length once once-fit commandsAt (omega arith)
-        ∙ raised-length s f (packetsAt cc) (packets-at cc)
-
   module _ (n : ℕ) where
     abbrev marks : List ℕ
     marks = raised8 (getD s errorsAt 0) ∷ n ∷ []
 
     marks-fit : errorsAt + 2 ≤ length once
-    marks-fit = omega (arith, once-fit .whole)
+    marks-fit = omega (arith, once-whole)
 
     pub erred-view : view (erredOn s cc n) ≡ erred (view s) cc n
     unfolding erredOn erred view talliesIn
     erred-view =
-        marked-view once once-fit errorsAt marks (omega arith) (omega arith)
+        marked-view once once-whole errorsAt marks (omega arith) (omega arith)
         (getD-put-inside once errorsAt marks marks-fit 0 (omega arith))
         (getD-put-inside once errorsAt marks marks-fit 1 (omega arith))
         (getD-put-after once errorsAt marks marks-fit sequenceAt (omega arith))
@@ -251,27 +211,19 @@ module _ (s : List ℕ) (f : Fit s) (cc : Channel) where
         ∙ ap
         (λ (c : Controller). withTallies c (withError (c .tallies) (raised8 (getD s errorsAt 0)) n)) (packets-view s f cc)
 
-    pub erred-fit : Fit (erredOn s cc n)
-    unfolding erredOn
-    erred-fit = fit-tallied once once-fit errorsAt marks (omega arith) (omega arith)
-
-    pub erred-length : length (erredOn s cc n) ≡ length s
-    unfolding erredOn
-    erred-length = length-put once errorsAt marks marks-fit ∙ raised-length s f (packetsAt cc) (packets-at cc)
-
 -- ---- the bytes of frame 07
 
-module _ (s : List ℕ) (f : Fit s) (x : List ℕ) (e : length x ≡ 58) where
+module _ (s : List ℕ) (f : Whole s) (x : List ℕ) (e : length x ≡ 58) where
   housed-fits : housedAt + length x ≤ length s
   housed-fits = omega arith
 
   pub housed-view : view (put s housedAt x) ≡ withHoused (view s) x
   unfolding view
   housed-view =
-      let w : stateBytes ≤ length s = f .whole in
+      let w : Whole s = f in
       let clock = clock-apart s housedAt x housed-fits w (omega arith) in
       let standing = standing-apart s housedAt x housed-fits w (inr (omega arith)) in
-      let impact = impact-apart s housedAt x housed-fits w (f .place) (inr (omega arith)) (inl (omega arith)) in
+      let impact = impact-apart s housedAt x housed-fits w (inr (omega arith)) (inl (omega arith)) in
       let tallies = tallies-apart s housedAt x housed-fits w (inr (omega arith)) in
       let housed = part-put-same s housedAt x housed-fits 58 e in
       let opened = opened-apart s housedAt x housed-fits w (inl (omega arith)) in
@@ -279,8 +231,8 @@ module _ (s : List ℕ) (f : Fit s) (x : List ℕ) (e : length x ≡ 58) where
       let first = first-apart s housedAt x housed-fits w (inr (omega arith)) in
       let waiting = waiting-apart s housedAt x housed-fits w (inr (omega arith)) in
       let pieces = pieces-apart s housedAt x housed-fits w (omega arith) in
-      let queue = pieces _ _ ∙ ap (λ (n : ℕ). piecesIn s n (getD (put s housedAt x) waitingAt 0)) first
-      ∙ ap (piecesIn s (getD s firstAt 0)) waiting in
+      let queue = pieces _ _ ∙ ap (λ (n : ℕ). piecesIn s n (waitingIn (put s housedAt x))) first
+      ∙ ap (piecesIn s (firstIn s)) waiting in
       λ i.
       record {
         clock = clock i;
@@ -290,11 +242,3 @@ module _ (s : List ℕ) (f : Fit s) (x : List ℕ) (e : length x ≡ 58) where
         housed = housed i;
         streams = record { opened = opened i; counts = counts i; queue = queue i };
       }
-
-  pub housed-fit : Fit (put s housedAt x)
-  housed-fit =
-      let w : stateBytes ≤ length s = f .whole in
-      fit-same (put s housedAt x) s f (omega (arith, length-put s housedAt x housed-fits))
-      (put-same s housedAt x housed-fits _ _ (inr (omega arith)))
-      (omega (arith, first-apart s housedAt x housed-fits w (inr (omega arith))))
-      (omega (arith, waiting-apart s housedAt x housed-fits w (inr (omega arith))))

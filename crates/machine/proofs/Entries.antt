@@ -1,4 +1,4 @@
--- Entries to a mode: the bytes after one hold document 01's controller after it, and fit.
+-- Entries to a mode: the bytes after one hold document 01's controller after it.
 -- Assumes nothing.
 use mathlib.Core.Path.{_≡_, refl, sym, ap, _∙_}
 use mathlib.Core.Bool.{Bool, true, false, cond}
@@ -8,7 +8,7 @@ use Prim.Native.Nat.{ℕ, zero, suc, _+_, _-_, _*_, _%_, _≤_, _<_}
 use native.Mathlib.Nat.{add-zero, add-assoc}
 use native.Mathlib.Omega.{arith}
 use lib.Dec.{eqb, leb}
-use lib.ListN.{length, getD, replicate, length-replicate, replicate-append-replicate}
+use lib.ListN.{length, getD, replicate, replicate-append-replicate}
 use Rattle.wire.specs.Wire.{be16, bytes16, put}
 use Rattle.wire.proofs.Runs.{length-put, getD-put-before, getD-put-inside, be16-put-inside, be24-put-inside, be16-put-same, be16-bytes16, be24-bytes24}
 use Rattle.impact.specs.Window.{windowOf}
@@ -19,21 +19,18 @@ use Rattle.paper.specs.Mode.{modeOf, number, same, proximity, Standing, entered
 use Rattle.paper.specs.Impact.{Impact, noComparison, noReading}
 use Rattle.paper.specs.Controller.{Controller, withStanding, withImpact}
 use Rattle.paper.specs.Acts.{emptied, enter, ended, commanded}
-use Rattle.state.specs.Layout.{timeAt, mAt, referenceAt, altitudeAt, nibbleAt, flagAt, impactTimeAt, impactModeAt, windowAt, placeAt, furtherAt, ringAt, slotsAt, stateBytes}
-use Rattle.state.specs.View.{clockIn, standingIn, collectionOf, ringFrom, impactIn, talliesIn, view}
-use Rattle.state.specs.Range.{Fit}
+use Rattle.state.specs.Layout.{timeAt, nibbleAt, flagAt, impactTimeAt, impactModeAt, windowAt, oldestAt, furtherAt, ringAt, slotsAt, stateBytes}
+use Rattle.state.specs.View.{clockIn, standingIn, collectionOf, ringFrom, impactIn, talliesIn, view, capped, nibbleIn, oldestIn}
+use Rattle.state.specs.Range.{Whole}
+use Rattle.lent.proofs.Fitting.{getD-zeros}
 use Rattle.lent.proofs.Same.{Same, Outside, same-trans, put-same, same-within, be16-same, be24-same}
 use Rattle.state.proofs.Apart.{clock-same, standing-same, tallies-same, ring-same}
 use Rattle.machine.specs.Entered.{noRing, emptiedOn, entryRun, enteredOn}
 use Rattle.machine.specs.Obeyed.{commandedOn}
-use Rattle.machine.proofs.Same.{headed, view-headed, fit-headed, view-stood, fit-stood, view-impacted, fit-impacted}
+use Rattle.machine.proofs.Past.{past-whole, length-noRing, further-past}
+use Rattle.machine.proofs.Same.{headed, view-headed, view-stood, view-impacted}
 
 -- ---- zeros
-
-pub getD-zeros : (n i : ℕ) → getD {A = ℕ} (replicate n 0) i 0 ≡ 0
-getD-zeros zero i = refl
-getD-zeros (suc n) zero = refl
-getD-zeros (suc n) (suc i) = getD-zeros n i
 
 pub wordsOf-zeros : (x : List ℕ) (at n : ℕ) → ((j : ℕ) → j < 2 * n → getD x (at + j) 0 ≡ 0) → wordsOf x at n ≡ replicate n 0
 unfolding wordsOf
@@ -57,23 +54,23 @@ ring-zeros x place h z =
     rw (newer, older) (replicate-append-replicate (512 - place) place 0) ∙ ap (λ (n : ℕ). replicate n 0) all
 
 -- the readings, where ring and oldest place are as they were
-pub ring-kept : (x y : List ℕ) → be16 y placeAt < 512 → Same x y placeAt furtherAt → Same x y ringAt slotsAt
-    → ringFrom x (be16 x placeAt) ≡ ringFrom y (be16 y placeAt)
-ring-kept x y h p r =
-    let place : be16 x placeAt ≡ be16 y placeAt = be16-same p placeAt (omega arith) (omega arith) in
-    ring-same x y (be16 x placeAt) (omega arith) r ∙ ap (ringFrom y) place
+pub ring-kept : (x y : List ℕ) → Same x y oldestAt furtherAt → Same x y ringAt slotsAt
+    → ringFrom x (oldestIn x) ≡ ringFrom y (oldestIn y)
+ring-kept x y p r =
+    ring-same x y (oldestIn x) (omega arith) r
+    ∙ ap (λ (n : ℕ). ringFrom y (n % 512)) (be16-same p oldestAt (omega arith) (omega arith))
 
 -- ---- the collection over
 
-module _ (s : List ℕ) (f : Fit s) where
+module _ (s : List ℕ) (f : Whole s) where
   pub idle-view : view (put s furtherAt (bytes16 0)) ≡ withImpact (view s) (ended (view s .impact))
-  unfolding view impactIn
+  unfolding view impactIn capped
   idle-view =
       let x : List ℕ = put s furtherAt (bytes16 0) in
       let fits : furtherAt + 2 ≤ length s = omega arith in
       let p : Same x s flagAt furtherAt = put-same s furtherAt (bytes16 0) fits _ _ (inr (omega arith)) in
       let r : Same x s ringAt slotsAt = put-same s furtherAt (bytes16 0) fits _ _ (inl (omega arith)) in
-      let ring = ring-kept x s (f .place) (same-within _ _ p (omega arith) (omega arith)) r in
+      let ring = ring-kept x s (same-within _ _ p (omega arith) (omega arith)) r in
       view-impacted s f furtherAt (bytes16 0) (omega arith) (omega arith) (omega arith)
       (λ i.
       record {
@@ -83,27 +80,12 @@ module _ (s : List ℕ) (f : Fit s) where
               time = be24-same p impactTimeAt (omega arith) (omega arith) i;
               mode = p .byte impactModeAt (omega arith) (omega arith) i;
             };
-        window = windowOf (p .byte windowAt (omega arith) (omega arith) i);
+        window = windowOf (p .byte windowAt (omega arith) (omega arith) i % 32);
         ring = ring i;
-        collection = collectionOf (be16-put-same s furtherAt 0 fits i);
+        collection = collectionOf (capped 448 (be16-put-same s furtherAt 0 fits i));
       })
 
-  pub idle-fit : Fit (put s furtherAt (bytes16 0))
-  idle-fit =
-      let fits : furtherAt + 2 ≤ length s = omega arith in
-      let p : Same (put s furtherAt (bytes16 0)) s flagAt furtherAt =
-      put-same s furtherAt (bytes16 0) fits _ _ (inr (omega arith)) in
-      fit-impacted s f furtherAt (bytes16 0) (omega arith) (omega arith) (omega arith)
-      (omega (arith, p .byte flagAt (omega arith) (omega arith)))
-      (omega (arith, p .byte windowAt (omega arith) (omega arith)))
-      (omega (arith, be16-same p placeAt (omega arith) (omega arith)))
-      (omega (arith, be16-put-same s furtherAt 0 fits))
-
 -- ---- "Entering mode 4 empties window and ring and clears the impact flag."
-
-pub length-noRing : length noRing ≡ 1024
-unfolding noRing
-length-noRing = length-replicate {A = ℕ} 1024 0
 
 noRing-zero : (i : ℕ) → getD noRing i 0 ≡ 0
 unfolding noRing
@@ -169,8 +151,8 @@ module _ (s : List ℕ) (whole : stateBytes ≤ length s) where
   stamp : Same (emptiedOn s) s impactTimeAt windowAt
   stamp = emptied-same impactTimeAt windowAt (inl (omega arith)) (inr (omega arith)) (inr (omega arith))
 
-  after : Same (emptiedOn s) s placeAt ringAt
-  after = emptied-same placeAt ringAt (inl (omega arith)) (inl (omega arith)) (inr (omega arith))
+  after : Same (emptiedOn s) s oldestAt ringAt
+  after = emptied-same oldestAt ringAt (inl (omega arith)) (inl (omega arith)) (inr (omega arith))
 
   slots : Same (emptiedOn s) s slotsAt stateBytes
   slots =
@@ -180,15 +162,14 @@ module _ (s : List ℕ) (whole : stateBytes ≤ length s) where
 abbrev none : Impact → Impact
 none i = record { flag = false; stamp = i .stamp; window = noComparison; ring = noReading; collection = i .collection }
 
--- of bytes that need not fit themselves, but agree from the oldest place on with bytes that do
-emptied-view : (s y : List ℕ) → Fit y → stateBytes ≤ length s → Same s y placeAt ringAt → Same s y slotsAt stateBytes
+-- of bytes that agree from the oldest place on with others
+emptied-view : (s y : List ℕ) → Whole y → Whole s → Same s y oldestAt ringAt → Same s y slotsAt stateBytes
     → view (emptiedOn s) ≡ headed (view y) (clockIn s) (standingIn s) (none (impactIn s)) (talliesIn s)
 unfolding impactIn
 emptied-view s y f w p q =
     let x : List ℕ = emptiedOn s in
-    let rest : Same x y placeAt ringAt = same-trans (after s w) p in
-    let place : be16 x placeAt ≡ be16 y placeAt = be16-same rest placeAt (omega arith) (omega arith) in
-    let ring : ringFrom x (be16 x placeAt) ≡ noReading = ring-zeros x (be16 x placeAt) (omega arith) (ring-zero s w) in
+    let rest : Same x y oldestAt ringAt = same-trans (after s w) p in
+    let ring : ringFrom x (oldestIn x) ≡ noReading = ring-zeros x (oldestIn x) (omega arith) (ring-zero s w) in
     view-headed x y f (omega (arith, emptied-length s w)) (same-within _ _ rest (omega arith) (omega arith))
     (same-trans (slots s w) q) (clock-same x s (same-within _ _ (before s w) (omega arith) (omega arith)))
     (standing-same x s (same-within _ _ (before s w) (omega arith) (omega arith)))
@@ -200,24 +181,11 @@ emptied-view s y f w p q =
             time = be24-same (stamp s w) impactTimeAt (omega arith) (omega arith) i;
             mode = stamp s w .byte impactModeAt (omega arith) (omega arith) i;
           };
-      window = windowOf (window-zero s w i);
+      window = windowOf (window-zero s w i % 32);
       ring = ring i;
-      collection = collectionOf (be16-same (after s w) furtherAt (omega arith) (omega arith) i);
+      collection = collectionOf (capped 448 (be16-same (after s w) furtherAt (omega arith) (omega arith) i));
     })
     (tallies-same x s (same-within _ _ (after s w) (omega arith) (omega arith)))
-
-module _ (s : List ℕ) (f : Fit s) where
-  emptied-fit : Fit (emptiedOn s)
-  emptied-fit =
-      let w : stateBytes ≤ length s = f .whole in
-      fit-headed (emptiedOn s) s f (omega (arith, emptied-length s w))
-      (same-within _ _ (after s w) (omega arith) (omega arith))
-      (omega (arith, be16-same (before s w) mAt (omega arith) (omega arith)))
-      (omega (arith, before s w .byte nibbleAt (omega arith) (omega arith)))
-      (omega (arith, flag-zero s w))
-      (omega (arith, window-zero s w))
-      (omega (arith, be16-same (after s w) placeAt (omega arith) (omega arith)))
-      (omega (arith, be16-same (after s w) furtherAt (omega arith) (omega arith)))
 
 -- ---- an entry
 
@@ -226,7 +194,7 @@ same-four : (n : ℕ) → n < 8 → same (modeOf n) proximity ≡ eqb n 4
 unfolding number
 same-four n h = ap (λ (k : ℕ). eqb k 4) (number-modeOf n h)
 
-module _ (s : List ℕ) (f : Fit s) (nibble reference : ℕ) where
+module _ (s : List ℕ) (f : Whole s) (nibble reference : ℕ) (small : nibble < 16) where
   -- the run that is stored has nine bytes
   fits-run : nibbleAt + 9 ≤ length s
   fits-run = omega arith
@@ -236,9 +204,9 @@ module _ (s : List ℕ) (f : Fit s) (nibble reference : ℕ) where
   unfolding standingIn entered clockIn
   entry-standing =
       let v : List ℕ = entryRun s nibble reference in
-      let head : getD (put s nibbleAt v) nibbleAt 0 ≡ nibble = getD-put-inside s nibbleAt v fits-run 0 (omega arith) in
+      let head : nibbleIn (put s nibbleAt v) ≡ nibble = omega (arith, getD-put-inside s nibbleAt v fits-run 0 (omega arith)) in
       let time = be24-put-inside s nibbleAt v fits-run 1 (omega arith) ∙ be24-bytes24 (now (clockIn s)) in
-      let old = getD-put-inside s nibbleAt v fits-run 4 (omega arith) ∙ sym (nibble-back (getD s nibbleAt 0) (f .nibble)) in
+      let old = getD-put-inside s nibbleAt v fits-run 4 (omega arith) ∙ sym (nibble-back (nibbleIn s) (omega arith)) in
       let altitude = be16-put-inside s nibbleAt v fits-run 5 (omega arith) in
       let after = be16-put-inside s nibbleAt v fits-run 7 (omega arith) ∙ be16-bytes16 reference in
       λ i.
@@ -277,46 +245,10 @@ module _ (s : List ℕ) (f : Fit s) (nibble reference : ℕ) where
           ∙ ap (λ (c : Controller). headed (view s) (c .clock) (c .standing) (none (c .impact)) (c .tallies)) entry-view
       at false = entry-view
 
-  pub entered-fit : nibble < 16 → Fit (enteredOn s nibble reference)
-  unfolding enteredOn
-  entered-fit small = at (eqb (nibble % 8) 4)
-    where
-      fit : Fit run
-      fit =
-          let v : List ℕ = entryRun s nibble reference in
-          let head : getD run nibbleAt 0 ≡ nibble = getD-put-inside s nibbleAt v fits-run 0 (omega arith) in
-          fit-stood s f nibbleAt v (omega arith) (omega arith) (omega arith) (omega arith)
-
-      at : (b : Bool) → Fit (cond b (emptiedOn run) run)
-      at true = emptied-fit run fit
-      at false = fit
-
-  pub entered-length : length (enteredOn s nibble reference) ≡ length s
-  unfolding enteredOn
-  entered-length = at (eqb (nibble % 8) 4)
-    where
-      run-length : length run ≡ length s
-      run-length = length-put s nibbleAt (entryRun s nibble reference) fits-run
-
-      at : (b : Bool) → length (cond b (emptiedOn run) run) ≡ length s
-      at true = emptied-length run (omega (arith, run-length)) ∙ run-length
-      at false = run-length
-
 -- ---- "0032 set mode": an entry by command
 
-module _ (s : List ℕ) (f : Fit s) (value : ℕ) where
-  pub commanded-view : view (commandedOn s value) ≡ commanded (view s) value
-  unfolding commandedOn commanded view clockIn
-  commanded-view =
-      entered-view (put s furtherAt (bytes16 0)) (idle-fit s f) value (seconds (be16 s timeAt))
-      ∙ ap (λ (c : Controller). enter c (modeOf (value % 8)) (leb 8 value) (seconds (be16 s timeAt))) (idle-view s f)
-
-  pub commanded-fit : value < 16 → Fit (commandedOn s value)
-  unfolding commandedOn
-  commanded-fit small = entered-fit (put s furtherAt (bytes16 0)) (idle-fit s f) value (seconds (be16 s timeAt)) small
-
-  pub commanded-length : length (commandedOn s value) ≡ length s
-  unfolding commandedOn
-  commanded-length =
-      entered-length (put s furtherAt (bytes16 0)) (idle-fit s f) value (seconds (be16 s timeAt))
-      ∙ length-put s furtherAt (bytes16 0) (omega arith)
+pub commanded-view : (s : List ℕ) → Whole s → (value : ℕ) → value < 16 → view (commandedOn s value) ≡ commanded (view s) value
+unfolding commandedOn commanded view clockIn
+commanded-view s w value small =
+    entered-view (put s furtherAt (bytes16 0)) (past-whole (further-past s 0 w) w) value (seconds (be16 s timeAt)) small
+    ∙ ap (λ (c : Controller). enter c (modeOf (value % 8)) (leb 8 value) (seconds (be16 s timeAt))) (idle-view s w)

@@ -1,4 +1,4 @@
--- Fresh bytes hold document 01's fresh controller, and fit.
+-- Fresh bytes hold document 01's fresh controller, and fit; bytes past the state stay.
 -- Assumes nothing.
 use mathlib.Core.Path.{_≡_, refl, sym, ap, _∙_, fun-ext}
 use mathlib.Core.Bool.{Bool, true, false, cond}
@@ -6,35 +6,33 @@ use mathlib.Core.List.{List, [], _∷_}
 use Prim.Native.Nat.{ℕ, _+_, _%_, _≤_, _<_}
 use native.Mathlib.Omega.{arith}
 use lib.Dec.{eqb, leb, ltb}
-use lib.ListN.{length, drop, getD, replicate, length-replicate, List·getD-append}
+use lib.ListN.{length, drop, getD, replicate, length-replicate}
 use lib.Seq.{ext-getD}
-use borrow.Author.Tests.{ltb-true}
-use Rattle.wire.specs.Wire.{be16, be24, part, put}
-use Rattle.wire.proofs.Runs.{length-part, getD-part, length-put, getD-put-before, getD-put-inside, getD-put-after}
+use borrow.Author.Tests.{ltb-true, leb-true}
+use Rattle.wire.specs.Wire.{be16, be24, part}
+use Rattle.wire.proofs.Runs.{length-part, getD-part, length-put, getD-put-before, getD-put-inside, getD-put-after, be16-put-before}
 use Rattle.impact.specs.Window.{windowOf}
+use Rattle.paper.specs.Frames.{cdmuA, cdmuB}
 use Rattle.paper.specs.Mode.{modeOf}
 use Rattle.paper.specs.Controller.{nothingOpen, start}
-use Rattle.state.specs.Layout.{nibbleAt, flagAt, windowAt, placeAt, furtherAt, firstAt, waitingAt, housedAt, streams, countAt, openAt, ringAt, stateBytes}
-use Rattle.state.specs.View.{clockIn, standingIn, collectionOf, ringFrom, impactIn, talliesIn, openIn, countIn, piecesIn, view}
-use Rattle.state.specs.Range.{Fit}
-use Rattle.state.specs.Fresh.{zeros, startedOn}
+use Rattle.state.specs.Layout.{controllerMark, timeAt, altitudeAt, spinAt, phaseAt, mAt, nibbleAt, entryTimeAt, oldAt, entryAltitudeAt, referenceAt, flagAt, impactTimeAt, impactModeAt, windowAt, furtherAt, commandsAt, broadcastsAt, packetsAt, telemetryAt, errorsAt, codeAt, sequenceAt, idAt, waitingAt, housedAt, streams, countAt, openAt, ringAt, stateBytes}
+use Rattle.state.specs.View.{capped, oldestIn, firstIn, waitingIn, clockIn, standingIn, collectionOf, ringFrom, impactIn, talliesIn, openIn, countIn, piecesIn, view}
+use Rattle.state.specs.Range.{Whole, Fit}
+use Rattle.state.specs.Fresh.{startedOn}
+use Rattle.lent.specs.Fitting.{markAt, blankOn}
+use Rattle.lent.proofs.Fitting.{getD-zeros, blank-length, blank-mark, blank-zero, blank-rest, drop-rest}
+use Rattle.lent.specs.Told.{told}
 use Rattle.state.proofs.Apart.{shut-open}
-use Rattle.machine.proofs.Entries.{getD-zeros, ring-zeros}
+use Rattle.machine.specs.Called.{startOf}
+use Rattle.machine.proofs.Entries.{ring-zeros}
 
-pub length-zeros : length zeros ≡ stateBytes
-unfolding zeros
-length-zeros = length-replicate {A = ℕ} stateBytes 0
-
-zeros-zero : (i : ℕ) → getD zeros i 0 ≡ 0
-unfolding zeros
-zeros-zero = getD-zeros stateBytes
-
--- ---- bytes that are zero but for the mode's
+-- ---- bytes that are zero but for the mark's and the mode's
 
 pub record Blank (x : List ℕ) : Type 0 where
-  pub whole : stateBytes ≤ length x
+  pub whole : Whole x
+  pub mark : be16 x markAt ≡ controllerMark
   pub mode : getD x nibbleAt 0 ≡ 1
-  pub low : (i : ℕ) → i < nibbleAt → getD x i 0 ≡ 0
+  pub low : (i : ℕ) → timeAt ≤ i → i < nibbleAt → getD x i 0 ≡ 0
   pub high : (i : ℕ) → nibbleAt < i → i < stateBytes → getD x i 0 ≡ 0
 
 module _ (x : List ℕ) (z : Blank x) where
@@ -48,22 +46,8 @@ module _ (x : List ℕ) (z : Blank x) where
   long : (i : ℕ) → nibbleAt < i → i + 2 < stateBytes → be24 x i ≡ 0
   long i l h = omega (arith, byte i l (omega arith), byte (i + 1) (omega arith) (omega arith), byte (i + 2) (omega arith) h)
 
-  front : (i : ℕ) → i + 1 < nibbleAt → be16 x i ≡ 0
-  front i h = omega (arith, z .low i (omega arith), z .low (i + 1) h)
-
-  pub blank-fit : Fit x
-  blank-fit =
-      record {
-        whole = z .whole;
-        m = omega (arith, front 6 (omega arith));
-        nibble = omega (arith, z .mode);
-        flag = omega (arith, byte flagAt (omega arith) (omega arith));
-        window = omega (arith, byte windowAt (omega arith) (omega arith));
-        place = omega (arith, word placeAt (omega arith) (omega arith));
-        further = omega (arith, word furtherAt (omega arith) (omega arith));
-        first = omega (arith, byte firstAt (omega arith) (omega arith));
-        waiting = omega (arith, byte waitingAt (omega arith) (omega arith));
-      }
+  front : (i : ℕ) → timeAt ≤ i → i + 1 < nibbleAt → be16 x i ≡ 0
+  front i l h = omega (arith, z .low i l (omega arith), z .low (i + 1) (omega arith) h)
 
   blank-housed : part x housedAt 58 ≡ replicate 58 0
   blank-housed =
@@ -86,58 +70,58 @@ module _ (x : List ℕ) (z : Blank x) where
       at t false e = refl
 
   pub blank-view : view x ≡ start
-  unfolding view start clockIn standingIn impactIn talliesIn piecesIn modeOf
+  unfolding view start clockIn standingIn impactIn talliesIn piecesIn modeOf capped
   blank-view =
       let housed = blank-housed in
       let opened = blank-opened in
       let counts = blank-counts in
-      let ring : ringFrom x (be16 x placeAt) ≡ replicate 512 0 =
-      ring-zeros x (be16 x placeAt) (omega (arith, word placeAt (omega arith) (omega arith)))
+      let ring : ringFrom x (oldestIn x) ≡ replicate 512 0 =
+      ring-zeros x (oldestIn x) (omega arith)
       (λ j h. byte (ringAt + j) (omega arith) (omega arith)) in
-      let queue : piecesIn x (getD x firstAt 0) (getD x waitingAt 0) ≡ [] =
-      ap (piecesIn x (getD x firstAt 0)) (byte waitingAt (omega arith) (omega arith)) in
+      let queue : piecesIn x (firstIn x) (waitingIn x) ≡ [] =
+      ap (λ (n : ℕ). piecesIn x (firstIn x) (capped 48 n)) (byte waitingAt (omega arith) (omega arith)) in
       λ i.
       record {
         clock =
             record {
-              time = front 0 (omega arith) i;
-              altitude = front 2 (omega arith) i;
-              spin = z .low 4 (omega arith) i;
-              phase = z .low 5 (omega arith) i;
-              m = front 6 (omega arith) i;
+              time = front timeAt (omega arith) (omega arith) i;
+              altitude = front altitudeAt (omega arith) (omega arith) i;
+              spin = z .low spinAt (omega arith) (omega arith) i;
+              phase = z .low phaseAt (omega arith) (omega arith) i;
+              m = capped 1023 (front mAt (omega arith) (omega arith) i);
             };
         standing =
             record {
-              mode = modeOf (z .mode i % 8);
-              locked = leb 8 (z .mode i);
+              mode = modeOf (z .mode i % 16 % 8);
+              locked = leb 8 (z .mode i % 16);
               entry =
                   record {
-                    time = long 9 (omega arith) (omega arith) i;
-                    altitude = word 13 (omega arith) (omega arith) i;
-                    old = byte 12 (omega arith) (omega arith) i;
+                    time = long entryTimeAt (omega arith) (omega arith) i;
+                    altitude = word entryAltitudeAt (omega arith) (omega arith) i;
+                    old = byte oldAt (omega arith) (omega arith) i;
                   };
-              reference = word 15 (omega arith) (omega arith) i;
+              reference = word referenceAt (omega arith) (omega arith) i;
             };
         impact =
             record {
-              flag = eqb (byte 17 (omega arith) (omega arith) i) 1;
+              flag = eqb (byte flagAt (omega arith) (omega arith) i) 1;
               stamp =
-                  record { time = long 18 (omega arith) (omega arith) i; mode = byte 21 (omega arith) (omega arith) i };
-              window = windowOf (byte 22 (omega arith) (omega arith) i);
+                  record { time = long impactTimeAt (omega arith) (omega arith) i; mode = byte impactModeAt (omega arith) (omega arith) i };
+              window = windowOf (byte windowAt (omega arith) (omega arith) i % 32);
               ring = ring i;
-              collection = collectionOf (word 25 (omega arith) (omega arith) i);
+              collection = collectionOf (capped 448 (word furtherAt (omega arith) (omega arith) i));
             };
         tallies =
             record {
               broadcasts =
-                  record { a = word 29 (omega arith) (omega arith) i; b = word 31 (omega arith) (omega arith) i };
-              packets = record { a = word 33 (omega arith) (omega arith) i; b = word 35 (omega arith) (omega arith) i };
-              telemetry = record { a = word 37 (omega arith) (omega arith) i; b = word 39 (omega arith) (omega arith) i };
-              commands = word 27 (omega arith) (omega arith) i;
-              errors = byte 41 (omega arith) (omega arith) i;
-              code = byte 42 (omega arith) (omega arith) i;
-              sequence = byte 43 (omega arith) (omega arith) i;
-              id = byte 44 (omega arith) (omega arith) i;
+                  record { a = word (broadcastsAt cdmuA) (omega arith) (omega arith) i; b = word (broadcastsAt cdmuB) (omega arith) (omega arith) i };
+              packets = record { a = word (packetsAt cdmuA) (omega arith) (omega arith) i; b = word (packetsAt cdmuB) (omega arith) (omega arith) i };
+              telemetry = record { a = word (telemetryAt cdmuA) (omega arith) (omega arith) i; b = word (telemetryAt cdmuB) (omega arith) (omega arith) i };
+              commands = word commandsAt (omega arith) (omega arith) i;
+              errors = byte errorsAt (omega arith) (omega arith) i;
+              code = byte codeAt (omega arith) (omega arith) i;
+              sequence = byte sequenceAt (omega arith) (omega arith) i;
+              id = byte idAt (omega arith) (omega arith) i;
             };
         housed = housed i;
         streams = record { opened = opened i; counts = counts i; queue = queue i };
@@ -145,33 +129,56 @@ module _ (x : List ℕ) (z : Blank x) where
 
 -- ---- what starting leaves
 
-module _ (s : List ℕ) (w : stateBytes ≤ length s) where
-  zeros-fit : 0 + length zeros ≤ length s
-  zeros-fit = omega (arith, length-zeros)
+module _ (s : List ℕ) (w : Whole s) where
+  abbrev blank : List ℕ
+  blank = blankOn stateBytes controllerMark s
 
-  mode-fits : nibbleAt + 1 ≤ length (put s 0 zeros)
-  mode-fits = omega (arith, length-put s 0 zeros zeros-fit)
+  blank-long : length blank ≡ length s
+  blank-long = blank-length stateBytes controllerMark s (omega arith) w
+
+  mode-fits : nibbleAt + 1 ≤ length blank
+  mode-fits = omega (arith, blank-long)
 
   pub start-length : length (startedOn s) ≡ length s
   unfolding startedOn
-  start-length = length-put (put s 0 zeros) nibbleAt (1 ∷ []) mode-fits ∙ length-put s 0 zeros zeros-fit
+  start-length = length-put blank nibbleAt (1 ∷ []) mode-fits ∙ blank-long
 
-  blanked : (i : ℕ) → i < stateBytes → getD (put s 0 zeros) i 0 ≡ 0
-  blanked i h =
-      List·getD-append zeros (drop (0 + length zeros) s) 0 i (omega (arith, length-zeros)) ∙ zeros-zero i
+  zero : (i : ℕ) → timeAt ≤ i → i < stateBytes → getD blank i 0 ≡ 0
+  zero = blank-zero stateBytes controllerMark s (omega arith) w
 
   start-blank : Blank (startedOn s)
   unfolding startedOn
   start-blank =
       record {
         whole = omega (arith, start-length);
-        mode = getD-put-inside (put s 0 zeros) nibbleAt (1 ∷ []) mode-fits 0 (omega arith);
-        low = λ i h. getD-put-before (put s 0 zeros) nibbleAt (1 ∷ []) mode-fits i h ∙ blanked i (omega arith);
-        high = λ i l h. getD-put-after (put s 0 zeros) nibbleAt (1 ∷ []) mode-fits i (omega arith) ∙ blanked i h;
+        mark =
+            be16-put-before blank nibbleAt (1 ∷ []) mode-fits markAt (omega arith)
+            ∙ blank-mark stateBytes controllerMark s (omega arith) w;
+        mode = getD-put-inside blank nibbleAt (1 ∷ []) mode-fits 0 (omega arith);
+        low = λ i l h. getD-put-before blank nibbleAt (1 ∷ []) mode-fits i h ∙ zero i l (omega arith);
+        high = λ i l h. getD-put-after blank nibbleAt (1 ∷ []) mode-fits i (omega arith) ∙ zero i (omega arith) h;
       }
 
   pub start-view : view (startedOn s) ≡ start
   start-view = blank-view (startedOn s) start-blank
 
   pub start-fit : Fit (startedOn s)
-  start-fit = blank-fit (startedOn s) start-blank
+  start-fit = record { whole = start-blank .whole; mark = start-blank .mark }
+
+  -- later bytes stay
+  start-rest : (i : ℕ) → stateBytes ≤ i → getD (startedOn s) i 0 ≡ getD s i 0
+  unfolding startedOn
+  start-rest i h =
+      getD-put-after blank nibbleAt (1 ∷ []) mode-fits i (omega arith)
+      ∙ blank-rest stateBytes controllerMark s (omega arith) w i h
+
+-- starting leaves the bytes past the state, whatever their number
+pub start-tail : (s : List ℕ) → drop stateBytes (startOf s .state) ≡ drop stateBytes s
+unfolding startOf
+start-tail s = at (leb stateBytes (length s)) refl
+  where
+    at : (b : Bool) → leb stateBytes (length s) ≡ b → drop stateBytes (cond b (told 0 (startedOn s)) (told 10 s) .state) ≡ drop stateBytes s
+    at true e =
+        let w : Whole s = leb-true stateBytes (length s) e in
+        drop-rest stateBytes (startedOn s) s (start-length s w) (start-rest s w)
+    at false e = refl

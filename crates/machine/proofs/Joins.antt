@@ -1,7 +1,7 @@
 -- From what a frame comes to, to what the call does: for an output that is long enough its length does not matter, and a frame that
 -- writes nothing leaves it as it is.
 -- Assumes nothing.
-use mathlib.Core.Path.{_≡_, refl, sym, ap, _∙_}
+use mathlib.Core.Path.{_≡_, refl, ap, _∙_}
 use mathlib.Core.Bool.{Bool, true, false, cond}
 use mathlib.Core.List.{List, []}
 use Prim.Native.Nat.{ℕ, _≤_}

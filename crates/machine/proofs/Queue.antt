@@ -1,5 +1,5 @@
 -- The stores of this crate as the paper's queue: what queuing a packet, dropping the first piece and clearing streams do to the
--- controller that the lent bytes hold, and that bytes in range stay so. Assumes nothing.
+-- controller that the lent bytes hold. Assumes nothing.
 use mathlib.Core.Path.{_≡_, refl, sym, ap, _∙_, fun-ext}
 use mathlib.Core.Bool.{Bool, true, false, cond}
 use mathlib.Core.List.{List, [], _∷_, _++_, append-nil, append-assoc}
@@ -23,10 +23,11 @@ use Rattle.paper.specs.Controller.{nothingOpen, withQueue, withStreams, queued}
 use Rattle.paper.specs.Acts.{cleared}
 use Rattle.paper.specs.Queue as paper
 use Rattle.state.specs.Layout.{firstAt, waitingAt, housedAt, streams, countAt, openAt, ringAt, slotsAt, slotAt, stateBytes}
-use Rattle.state.specs.View.{openIn, countIn, pieceIn, piecesIn, view}
-use Rattle.state.specs.Range.{Fit}
+use Rattle.state.specs.View.{openIn, countIn, pieceIn, piecesIn, view, capped, firstIn, waitingIn}
+use Rattle.state.specs.Range.{Whole}
 use Rattle.lent.proofs.Same.{Same, same-refl, same-trans, same-within, Outside, put-same}
-use Rattle.state.proofs.Apart.{count-where, counts-same, shut-open, opened-same, open-where, pieces-same, pieces-apart, pieces-apart-slot, streams-same, fit-same}
+use Rattle.state.proofs.Apart.{count-where, counts-same, shut-open, opened-same, open-where, pieces-same, pieces-apart, pieces-apart-slot, streams-same}
+use Rattle.state.proofs.Numbers.{capped-most, capped-low}
 use Rattle.state.proofs.Pieces.{length-pieces, pieces-round, pieces-snoc, piece-bytes, piece-stored, piece-of}
 use Rattle.machine.specs.Stores.{slot, laid, queuedOn, droppedOn, Swept, sweep, shut, clearedOn}
 
@@ -97,21 +98,21 @@ count-known s t l = rw (lt-ltb t streams l)
 record Queued (s : List ℕ) (t k : ℕ) (x r : List ℕ) : Type 0 where
   kept : length r ≡ length s
   below : Same r s 0 waitingAt
-  waits : getD r waitingAt 0 ≡ getD s waitingAt 0 + k
+  waits : waitingIn r ≡ waitingIn s + k
   between : Same r s housedAt (countAt t)
   counted : be16 r (countAt t) ≡ (be16 s (countAt t) + k) % 65536
   above : Same r s (countAt t + 2) slotsAt
-  joined : (i n : ℕ) → piecesIn r i n ≡ piecesIn (laid s (getD s firstAt 0 + getD s waitingAt 0) (be16 s (countAt t)) t k x) i n
+  joined : (i n : ℕ) → piecesIn r i n ≡ piecesIn (laid s (firstIn s + waitingIn s) (be16 s (countAt t)) t k x) i n
 
-module _ (s : List ℕ) (t k : ℕ) (x : List ℕ) (fit : Fit s) (known : t < streams) (room : getD s waitingAt 0 + k ≤ 48)
+module _ (s : List ℕ) (t k : ℕ) (x : List ℕ) (fit : Whole s) (known : t < streams) (room : waitingIn s + k ≤ 48)
     (long : 118 * k ≤ length x) where
   queued-bytes : Queued s t k x (queuedOn s t k x)
   unfolding queuedOn
   queued-bytes =
       let n : ℕ = be16 s (countAt t) in
-      let l : List ℕ = laid s (getD s firstAt 0 + getD s waitingAt 0) n t k x in
-      let more : ℕ = getD s waitingAt 0 + k in
-      let rest = laid-rest s (getD s firstAt 0 + getD s waitingAt 0) n t k x (fit .whole) long in
+      let l : List ℕ = laid s (firstIn s + waitingIn s) n t k x in
+      let more : ℕ = waitingIn s + k in
+      let rest = laid-rest s (firstIn s + waitingIn s) n t k x fit long in
       let w : List ℕ = put l waitingAt (more ∷ []) in
       let c : List ℕ = bytes16 ((n + k) % 65536) in
       let fw : waitingAt + 1 ≤ length l = omega arith in
@@ -127,8 +128,10 @@ module _ (s : List ℕ) (t k : ℕ) (x : List ℕ) (fit : Fit s) (known : t < st
         kept = lc ∙ lw ∙ rest .0;
         below = under 0 waitingAt (omega arith) (inr (omega arith)) (inr (omega arith));
         waits =
-            put-same w (countAt t) c fc waitingAt housedAt (inr (omega arith)) .byte waitingAt (omega arith) (omega arith)
-            ∙ getD-put-inside l waitingAt (more ∷ []) fw 0 (omega arith);
+            ap (capped 48)
+            (put-same w (countAt t) c fc waitingAt housedAt (inr (omega arith)) .byte waitingAt (omega arith) (omega arith)
+            ∙ getD-put-inside l waitingAt (more ∷ []) fw 0 (omega arith))
+            ∙ capped-low 48 more room;
         between = under housedAt (countAt t) (omega arith) (inl (omega arith)) (inr (omega arith));
         counted = be16-put-same w (countAt t) ((n + k) % 65536) (omega arith);
         above = under (countAt t + 2) slotsAt (omega arith) (inl (omega arith)) (inl (omega arith));
@@ -140,19 +143,19 @@ module _ (s : List ℕ) (t k : ℕ) (x : List ℕ) (fit : Fit s) (known : t < st
 
   -- the queue: the packet's pieces stand behind those that waited
   pub queued-queue :
-      piecesIn (queuedOn s t k x) (getD (queuedOn s t k x) firstAt 0) (getD (queuedOn s t k x) waitingAt 0)
+      piecesIn (queuedOn s t k x) (firstIn (queuedOn s t k x)) (waitingIn (queuedOn s t k x))
       ≡ view s .streams .queue ++ numbered wrap t (countIn s t) (chunks 118 k x)
   unfolding view countIn
   queued-queue =
       let q = queued-bytes in
-      let first = q .below .byte firstAt (omega arith) (omega arith) in
+      let first : firstIn (queuedOn s t k x) ≡ firstIn s = ap (λ (n : ℕ). n % 48) (q .below .byte firstAt (omega arith) (omega arith)) in
       rw (first, q .waits, q .joined, lt-ltb t streams known)
-      (laid-pieces s (getD s firstAt 0) (getD s waitingAt 0) (be16 s (countAt t)) t k x (fit .whole) long (omega arith) room)
+      (laid-pieces s (firstIn s) (waitingIn s) (be16 s (countAt t)) t k x fit long (omega arith) room)
 
   -- the stream's count goes on, and no other
   pub queued-count : (u : ℕ)
-      → countIn (queuedOn s t k x) u ≡ paper.put (view s .streams .counts) t (after wrap (view s .streams .counts t) (chunks 118 k x)) u
-  unfolding view paper.put
+      → countIn (queuedOn s t k x) u ≡ paper.replaced (view s .streams .counts) t (after wrap (view s .streams .counts t) (chunks 118 k x)) u
+  unfolding view paper.replaced
   queued-count u = at (eqb t u) refl
     where
       beside : u < streams → Dec (u < t) → (t ≡ u → ⊥) → Same (queuedOn s t k x) s (countAt u) (countAt u + 2)
@@ -174,14 +177,8 @@ module _ (s : List ℕ) (t k : ℕ) (x : List ℕ) (fit : Fit s) (known : t < st
           count-where (queuedOn s t k x) s u (λ l. beside l (decLt u t) (eqb-false t u e))
 
   pub queued-counts :
-      countIn (queuedOn s t k x) ≡ paper.put (view s .streams .counts) t (after wrap (view s .streams .counts t) (chunks 118 k x))
+      countIn (queuedOn s t k x) ≡ paper.replaced (view s .streams .counts) t (after wrap (view s .streams .counts t) (chunks 118 k x))
   queued-counts = fun-ext queued-count
-
-  pub queued-fit : Fit (queuedOn s t k x)
-  queued-fit =
-      let q = queued-bytes in
-      fit-same (queuedOn s t k x) s fit (omega (arith, q .kept)) (same-within 0 firstAt (q .below) (omega arith) (omega arith))
-      (omega (arith, q .below .byte firstAt (omega arith) (omega arith))) (omega (arith, q .waits))
 
   -- all of it
   pub queued-view :
@@ -189,7 +186,7 @@ module _ (s : List ℕ) (t k : ℕ) (x : List ℕ) (fit : Fit s) (known : t < st
       ≡ withStreams (view s)
       (record {
         opened = view s .streams .opened;
-        counts = paper.put (view s .streams .counts) t (after wrap (view s .streams .counts t) (chunks 118 k x));
+        counts = paper.replaced (view s .streams .counts) t (after wrap (view s .streams .counts t) (chunks 118 k x));
         queue = view s .streams .queue ++ numbered wrap t (view s .streams .counts t) (chunks 118 k x);
       })
   unfolding view
@@ -197,14 +194,14 @@ module _ (s : List ℕ) (t k : ℕ) (x : List ℕ) (fit : Fit s) (known : t < st
       let q = queued-bytes in
       let r : List ℕ = queuedOn s t k x in
       let opened : openIn r ≡ openIn s =
-      opened-same r s (omega (arith, q .kept)) (fit .whole) (same-within (openAt 0) ringAt (q .above) (omega arith) (omega arith)) in
+      opened-same r s (omega (arith, q .kept)) fit (same-within (openAt 0) ringAt (q .above) (omega arith) (omega arith)) in
       streams-same r s fit (omega (arith, q .kept)) (same-within 0 firstAt (q .below) (omega arith) (omega arith))
       (same-within housedAt (countAt 0) (q .between) (omega arith) (omega arith))
       (same-within ringAt slotsAt (q .above) (omega arith) (omega arith))
       ∙ (λ i. withStreams (view s) (record { opened = opened i; counts = queued-counts i; queue = queued-queue i }))
 
 -- the paper's packet of a stream, where the bytes lent are its pieces
-pub queued-packet : (s : List ℕ) (t : ℕ) (p x : List ℕ) → Fit s → t < streams → getD s waitingAt 0 + pieces t ≤ 48
+pub queued-packet : (s : List ℕ) (t : ℕ) (p x : List ℕ) → Whole s → t < streams → waitingIn s + pieces t ≤ 48
     → 118 * pieces t ≤ length p → chunks 118 (pieces t) p ≡ cut (pieces t) x
     → view (queuedOn s t (pieces t) p) ≡ queued (view s) t x
 unfolding queued
@@ -212,42 +209,44 @@ queued-packet s t p x fit known room long e = queued-view s t (pieces t) p fit k
 
 -- ---- the first piece leaves
 
-pub queue-length : (s : List ℕ) → length (view s .streams .queue) ≡ getD s waitingAt 0
+pub queue-length : (s : List ℕ) → length (view s .streams .queue) ≡ waitingIn s
 unfolding view
-queue-length s = length-pieces s (getD s firstAt 0) (getD s waitingAt 0)
+queue-length s = length-pieces s (firstIn s) (waitingIn s)
 
 -- where a piece waits, it stands in the first slot, and the others behind it
-pub waits-first : (s : List ℕ) → Fit s → 0 < getD s waitingAt 0
-    → view s .streams .queue ≡ pieceIn s (getD s firstAt 0) ∷ piecesIn s (getD s firstAt 0 + 1) (getD s waitingAt 0 - 1)
+pub waits-first : (s : List ℕ) → Whole s → 0 < waitingIn s
+    → view s .streams .queue ≡ pieceIn s (firstIn s) ∷ piecesIn s (firstIn s + 1) (waitingIn s - 1)
 unfolding view piecesIn
 waits-first s fit h =
-    let e : getD s waitingAt 0 ≡ suc (getD s waitingAt 0 - 1) = omega arith in
-    let f : getD s firstAt 0 % 48 ≡ getD s firstAt 0 = omega arith in
-    ap (piecesIn s (getD s firstAt 0)) e ∙ rw f
+    let e : waitingIn s ≡ suc (waitingIn s - 1) = omega arith in
+    let f : firstIn s % 48 ≡ firstIn s = omega arith in
+    ap (piecesIn s (firstIn s)) e ∙ rw f
 
 -- a queue that has a first piece has one that waits
 pub some-waits : (s : List ℕ) (p : Piece (List ℕ)) (rest : List (Piece (List ℕ))) → view s .streams .queue ≡ p ∷ rest
-    → 0 < getD s waitingAt 0
+    → 0 < waitingIn s
 some-waits s p rest e =
-    let l : getD s waitingAt 0 ≡ suc (length rest) = sym (queue-length s) ∙ ap length e in
+    let l : waitingIn s ≡ suc (length rest) = sym (queue-length s) ∙ ap length e in
     omega arith
 
 -- so it is the piece in the first slot
-pub first-piece : (s : List ℕ) → Fit s → (p : Piece (List ℕ)) (rest : List (Piece (List ℕ))) → view s .streams .queue ≡ p ∷ rest
-    → p ≡ pieceIn s (getD s firstAt 0)
+pub first-piece : (s : List ℕ) → Whole s → (p : Piece (List ℕ)) (rest : List (Piece (List ℕ))) → view s .streams .queue ≡ p ∷ rest
+    → p ≡ pieceIn s (firstIn s)
 first-piece s fit p rest e =
     let f = waits-first s fit (some-waits s p rest e) in
     cc
 
-module _ (s : List ℕ) (fit : Fit s) where
+module _ (s : List ℕ) (fit : Whole s) where
   -- the two bytes
-  dropped-first : getD (droppedOn s) firstAt 0 ≡ (getD s firstAt 0 + 1) % 48
+  dropped-first : firstIn (droppedOn s) ≡ (firstIn s + 1) % 48
   unfolding droppedOn
-  dropped-first = getD-put-inside s firstAt (_ ∷ _ ∷ []) (omega arith) 0 (omega arith)
+  dropped-first = omega (arith, getD-put-inside s firstAt ((firstIn s + 1) % 48 ∷ (waitingIn s - 1) ∷ []) (omega arith) 0 (omega arith))
 
-  dropped-waits : getD (droppedOn s) waitingAt 0 ≡ getD s waitingAt 0 - 1
+  dropped-waits : waitingIn (droppedOn s) ≡ waitingIn s - 1
   unfolding droppedOn
-  dropped-waits = getD-put-inside s firstAt (_ ∷ _ ∷ []) (omega arith) 1 (omega arith)
+  dropped-waits =
+      ap (capped 48) (getD-put-inside s firstAt ((firstIn s + 1) % 48 ∷ (waitingIn s - 1) ∷ []) (omega arith) 1 (omega arith))
+      ∙ capped-low 48 (waitingIn s - 1) (omega (arith, capped-most 48 (getD s waitingAt 0)))
 
   dropped-whole : length (droppedOn s) ≡ length s
   unfolding droppedOn
@@ -259,12 +258,7 @@ module _ (s : List ℕ) (fit : Fit s) where
 
   dropped-pieces : (i n : ℕ) → piecesIn (droppedOn s) i n ≡ piecesIn s i n
   unfolding droppedOn
-  dropped-pieces = pieces-apart s firstAt (_ ∷ _ ∷ []) (omega arith) (fit .whole) (omega arith)
-
-  pub dropped-fit : Fit (droppedOn s)
-  dropped-fit =
-      fit-same (droppedOn s) s fit (omega (arith, dropped-whole)) (dropped-same 0 firstAt (inr (omega arith)))
-      (omega (arith, dropped-first)) (omega (arith, dropped-waits))
+  dropped-pieces = pieces-apart s firstAt (_ ∷ _ ∷ []) (omega arith) fit (omega arith)
 
   pub dropped-view : (p : Piece (List ℕ)) (rest : List (Piece (List ℕ))) → view s .streams .queue ≡ p ∷ rest
       → view (droppedOn s) ≡ withStreams (view s) (withQueue (view s .streams) rest)
@@ -272,12 +266,12 @@ module _ (s : List ℕ) (fit : Fit s) where
   dropped-view p rest e =
       let r : List ℕ = droppedOn s in
       let f = waits-first s fit (some-waits s p rest e) in
-      let left : piecesIn s (getD s firstAt 0 + 1) (getD s waitingAt 0 - 1) ≡ rest = cc in
+      let left : piecesIn s (firstIn s + 1) (waitingIn s - 1) ≡ rest = cc in
       let round =
-      pieces-round s ((getD s firstAt 0 + 1) % 48) (getD s firstAt 0 + 1) (getD s waitingAt 0 - 1) (omega arith) in
-      let queue : piecesIn r (getD r firstAt 0) (getD r waitingAt 0) ≡ rest =
+      pieces-round s ((firstIn s + 1) % 48) (firstIn s + 1) (waitingIn s - 1) (omega arith) in
+      let queue : piecesIn r (firstIn r) (waitingIn r) ≡ rest =
       rw (dropped-first, dropped-waits, dropped-pieces) (round ∙ left) in
-      let opened : openIn r ≡ openIn s = opened-same r s (omega (arith, dropped-whole)) (fit .whole) (dropped-same (openAt 0) ringAt (inl (omega arith))) in
+      let opened : openIn r ≡ openIn s = opened-same r s (omega (arith, dropped-whole)) fit (dropped-same (openAt 0) ringAt (inl (omega arith))) in
       let counts : countIn r ≡ countIn s = counts-same r s (dropped-same (countAt 0) (openAt 0) (inl (omega arith))) in
       streams-same r s fit (omega (arith, dropped-whole)) (dropped-same 0 firstAt (inr (omega arith)))
       (dropped-same housedAt (countAt 0) (inl (omega arith))) (dropped-same ringAt slotsAt (inl (omega arith)))
@@ -450,21 +444,21 @@ record Clears (s : List ℕ) (mask : ℕ) (r : List ℕ) : Type 0 where
   under : (lo hi : ℕ) → hi ≤ waitingAt → Same r s lo hi
   between : Same r s housedAt (openAt 0)
   ring : Same r s ringAt slotsAt
-  fewer : getD r waitingAt 0 ≤ getD s waitingAt 0
   queue :
-      piecesIn r (getD s firstAt 0) (getD r waitingAt 0)
-      ≡ without (names mask) (piecesIn s (getD s firstAt 0) (getD s waitingAt 0))
+      piecesIn r (firstIn s) (waitingIn r)
+      ≡ without (names mask) (piecesIn s (firstIn s) (waitingIn s))
   other : (t : ℕ) → t < streams → names mask t ≡ false → Same r s (openAt t) (openAt t + 150)
   gone : (t : ℕ) → t < streams → names mask t ≡ true → getD r (openAt t) 0 ≡ 0
 
-module _ (s : List ℕ) (mask : ℕ) (fit : Fit s) where
+module _ (s : List ℕ) (mask : ℕ) (fit : Whole s) where
   clears : Clears s mask (clearedOn s mask)
   unfolding clearedOn piecesIn
   clears =
-      let first : ℕ = getD s firstAt 0 in
-      let waiting : ℕ = getD s waitingAt 0 in
+      let first : ℕ = firstIn s in
+      let waiting : ℕ = waitingIn s in
+      let most : waiting ≤ 48 = capped-most 48 (getD s waitingAt 0) in
       let w : Swept = sweep mask first s 0 0 waiting in
-      let q = sweeps mask first s 0 0 waiting (fit .whole) (omega arith) (omega arith) in
+      let q = sweeps mask first s 0 0 waiting fit (omega arith) (omega arith) in
       let b : List ℕ = put (w .bytes) waitingAt (w .kept ∷ []) in
       let fb : waitingAt + 1 ≤ length (w .bytes) = omega (arith, q .whole) in
       let lb = length-put (w .bytes) waitingAt (w .kept ∷ []) fb in
@@ -475,9 +469,11 @@ module _ (s : List ℕ) (mask : ℕ) (fit : Fit s) where
       λ lo hi top o.
       same-trans (put-same (w .bytes) waitingAt (w .kept ∷ []) fb lo hi o)
       (same-within lo hi (q .below) (omega arith) top) in
-      let waits : getD r waitingAt 0 ≡ w .kept =
-      z .rest waitingAt housedAt (inl (omega arith)) .byte waitingAt (omega arith) (omega arith)
-      ∙ getD-put-inside (w .bytes) waitingAt (w .kept ∷ []) fb 0 (omega arith) in
+      let waits : waitingIn r ≡ w .kept =
+      ap (capped 48)
+      (z .rest waitingAt housedAt (inl (omega arith)) .byte waitingAt (omega arith) (omega arith)
+      ∙ getD-put-inside (w .bytes) waitingAt (w .kept ∷ []) fb 0 (omega arith))
+      ∙ capped-low 48 (w .kept) (omega (arith, q .fewer, most)) in
       let pieces : (i n : ℕ) → piecesIn r i n ≡ piecesIn (w .bytes) i n =
       λ i n.
       pieces-same r b (omega (arith, z .whole)) whole i n (λ k c. z .rest _ _ (inr (omega arith)))
@@ -490,7 +486,6 @@ module _ (s : List ℕ) (mask : ℕ) (fit : Fit s) where
             (stored housedAt (openAt 0) (omega arith) (inl (omega arith)));
         ring =
             same-trans (z .rest ringAt slotsAt (inr (omega arith))) (stored ringAt slotsAt (omega arith) (inl (omega arith)));
-        fewer = omega (arith, waits, q .fewer);
         queue = rw (waits, pieces) (q .pieces ∙ rw (add-zero first));
         other =
             λ t l e.
@@ -498,29 +493,23 @@ module _ (s : List ℕ) (mask : ℕ) (fit : Fit s) where
         gone = λ t l e. z .gone t l e;
       }
 
-  pub cleared-fit : Fit (clearedOn s mask)
-  cleared-fit =
-      let q = clears in
-      let first = q .under 0 waitingAt (omega arith) .byte firstAt (omega arith) (omega arith) in
-      fit-same (clearedOn s mask) s fit (omega (arith, q .kept)) (q .under 0 firstAt (omega arith)) (omega arith)
-      (omega (arith, q .fewer))
-
   pub cleared-open : (t : ℕ) → openIn (clearedOn s mask) t ≡ cond (names mask t) nothingOpen (openIn s t)
   cleared-open t = at (names mask t) refl
     where
       at : (b : Bool) → names mask t ≡ b → openIn (clearedOn s mask) t ≡ cond b nothingOpen (openIn s t)
       at true e = shut-open (clearedOn s mask) t (λ l. clears .gone t l e)
-      at false e = open-where (clearedOn s mask) s (omega (arith, clears .kept)) (fit .whole) t (λ l. clears .other t l e)
+      at false e = open-where (clearedOn s mask) s (omega (arith, clears .kept)) fit t (λ l. clears .other t l e)
 
   pub cleared-view : view (clearedOn s mask) ≡ cleared (view s) mask
   unfolding view cleared
   cleared-view =
       let q = clears in
       let r : List ℕ = clearedOn s mask in
-      let first = q .under 0 waitingAt (omega arith) .byte firstAt (omega arith) (omega arith) in
+      let first : firstIn r ≡ firstIn s =
+      ap (λ (n : ℕ). n % 48) (q .under 0 waitingAt (omega arith) .byte firstAt (omega arith) (omega arith)) in
       let queue :
-      piecesIn r (getD r firstAt 0) (getD r waitingAt 0)
-      ≡ without (names mask) (piecesIn s (getD s firstAt 0) (getD s waitingAt 0)) =
+      piecesIn r (firstIn r) (waitingIn r)
+      ≡ without (names mask) (piecesIn s (firstIn s) (waitingIn s)) =
       rw first (q .queue) in
       let counts : countIn r ≡ countIn s =
       counts-same r s (same-within (countAt 0) (openAt 0) (q .between) (omega arith) (omega arith)) in

@@ -20,7 +20,7 @@ use Rattle.machine.specs.Heard.{heardOn, movedOn}
 use Rattle.machine.specs.Ticked.{tickedOn}
 use Rattle.machine.specs.Sampled.{sampledOn}
 use Rattle.machine.specs.Obeyed.{notedOn, erredOn, performedOn}
-use Rattle.machine.specs.Polled.{polledOn}
+use Rattle.machine.specs.Polled.{pollAnsweredOn}
 
 -- the bytes after an accepted frame
 unfoldable pub actedOn : List ℕ → Frame → List ℕ
@@ -28,7 +28,7 @@ actedOn s (broadcast cc time altitude spin phase) = movedOn (heardOn s cc time a
 actedOn s (command cc id sequence parameters) = performedOn (notedOn s cc id sequence) (decoded id parameters)
 actedOn s (tick r) = tickedOn s r
 actedOn s (sample t x) = sampledOn s t x
-actedOn s (poll cc) = polledOn s cc
+actedOn s (poll cc) = pollAnsweredOn s cc
 actedOn s (status cc low flags) = s
 actedOn s (analogue bytes) = put s housedAt bytes
 actedOn s faulty = s

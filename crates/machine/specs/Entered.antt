@@ -1,6 +1,6 @@
 -- What entering a mode does to the lent bytes.
 -- Assumes nothing.
-use mathlib.Core.Bool.{Bool, cond}
+use mathlib.Core.Bool.{cond}
 use mathlib.Core.List.{List, [], _∷_, _++_}
 use Prim.Native.Nat.{ℕ, _+_, _%_}
 use lib.Dec.{eqb}
@@ -8,7 +8,7 @@ use lib.ListN.{getD, replicate}
 use Rattle.wire.specs.Wire.{bytes16, bytes24, put}
 use Rattle.paper.specs.Clock.{now}
 use Rattle.state.specs.Layout.{altitudeAt, nibbleAt, flagAt, windowAt, ringAt}
-use Rattle.state.specs.View.{clockIn}
+use Rattle.state.specs.View.{nibbleIn, clockIn}
 
 -- 512 readings of zero
 unfoldable pub noRing : List ℕ
@@ -22,7 +22,7 @@ emptiedOn s = put (put (put s flagAt (0 ∷ [])) windowAt (0 ∷ [])) ringAt noR
 abbrev pub entryRun : List ℕ → ℕ → ℕ → List ℕ
 entryRun s nibble reference =
     (nibble ∷ bytes24 (now (clockIn s)))
-    ++ (getD s nibbleAt 0 ∷ getD s altitudeAt 0 ∷ getD s (altitudeAt + 1) 0 ∷ bytes16 reference)
+    ++ (nibbleIn s ∷ getD s altitudeAt 0 ∷ getD s (altitudeAt + 1) 0 ∷ bytes16 reference)
 
 unfoldable pub enteredOn : List ℕ → ℕ → ℕ → List ℕ
 enteredOn s nibble reference =

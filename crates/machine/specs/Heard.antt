@@ -6,10 +6,10 @@ use Prim.Native.Nat.{ℕ}
 use Rattle.wire.specs.Wire.{be16, bytes16, put, raisedOn}
 use Rattle.paper.specs.Frames.{Channel}
 use Rattle.paper.specs.Clock.{seconds}
-use Rattle.paper.specs.Mode.{Mode, nibble, same, ruled, Seen}
+use Rattle.paper.specs.Mode.{nibble, same, ruled, Seen}
 use Rattle.paper.specs.Impact.{collects}
-use Rattle.state.specs.Layout.{timeAt, altitudeAt, furtherAt, broadcastsAt}
-use Rattle.state.specs.View.{standingIn, collectionOf}
+use Rattle.state.specs.Layout.{timeAt, altitudeAt, broadcastsAt}
+use Rattle.state.specs.View.{standingIn, collectionOf, furtherIn}
 use Rattle.machine.specs.Entered.{enteredOn}
 
 -- its count is raised, its words are stored, m is 0
@@ -23,7 +23,7 @@ seenIn s =
     record {
       t = seconds (be16 s timeAt);
       altitude = be16 s altitudeAt;
-      collecting = collects (collectionOf (be16 s furtherAt));
+      collecting = collects (collectionOf (furtherIn s));
     }
 
 -- the mode rule, and the entry where it changes the mode

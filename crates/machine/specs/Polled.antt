@@ -8,5 +8,5 @@ use Rattle.state.specs.Layout.{telemetryAt}
 use Rattle.machine.specs.Stores.{droppedOn}
 
 -- the first piece is gone, and the channel's telemetry count is raised
-unfoldable pub polledOn : List ℕ → Channel → List ℕ
-polledOn s cc = raisedOn (droppedOn s) (telemetryAt cc)
+unfoldable pub pollAnsweredOn : List ℕ → Channel → List ℕ
+pollAnsweredOn s cc = raisedOn (droppedOn s) (telemetryAt cc)

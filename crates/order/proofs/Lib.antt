@@ -1,2 +1,2 @@
 -- The reply to a command by what it decodes to.
-pub mod Judged
+pub mod CommandReply

@@ -12,7 +12,7 @@ use streams::HK;
 ghost use mathlib.Core.Path.{_≡_};
 ghost use mathlib.Core.Bool.{true};
 ghost use Prim.Native.Nat.{ℕ, _<_, _≤_};
-ghost use lib.ListN.{length, getD, drop};
+ghost use lib.ListN.{length, drop};
 ghost use Rattle.wire.specs.Wire.{be16};
 ghost use Rattle.paper.specs.Commands as Commands;
 ghost use Rattle.paper.specs.Streams.{hk};
@@ -21,8 +21,7 @@ ghost use Rattle.frames.specs.declared.Kind.the-variants.{Command};
 ghost use Rattle.frames.specs.Meaning.{channel};
 ghost use Rattle.frames.specs.Meaning as Meaning;
 ghost use Rattle.command.specs.Meaning.{asked, meant};
-ghost use Rattle.state.specs.Layout.{stateBytes};
-ghost use Rattle.state.specs.Range.{Fit};
+ghost use Rattle.state.specs.Range.{Whole};
 ghost use Rattle.lent.specs.Told.{told};
 ghost use Rattle.machine.specs.Stores.{Free};
 ghost use Rattle.machine.specs.Obeyed.{notedOn, erredOn, commandedOn, obeyedOn};
@@ -30,7 +29,7 @@ ghost use Rattle.machine.specs.Called.{toldOn};
 
 // An accepted command is counted, and its sequence and id are kept.
 fn note(s: &mut [u8], side: Side, id: u16, sequence: u16)
-    requires { ⌜ stateBytes ≤ length (now s) ⌝ }
+    requires { ⌜ Whole (now s) ⌝ }
     ensures { λ _. ⌜ now (s .exit) ≡ notedOn (now (s .entry)) (channel side) id sequence ⌝ }
 {
     wire::raise16(s, state::channel_at(PACKETS, side));
@@ -41,7 +40,7 @@ fn note(s: &mut [u8], side: Side, id: u16, sequence: u16)
 
 // A refused command is counted, and its error.
 fn err(s: &mut [u8], side: Side, reply: u8)
-    requires { ⌜ stateBytes ≤ length (now s) ⌝ }
+    requires { ⌜ Whole (now s) ⌝ }
     ensures { λ _. ⌜ now (s .exit) ≡ erredOn (now (s .entry)) (channel side) reply ⌝ }
 {
     let errors = s[ERRORS];
@@ -52,7 +51,7 @@ fn err(s: &mut [u8], side: Side, reply: u8)
 
 // Sets the mode: an entry, which abandons a running collection.
 fn set_mode(s: &mut [u8], value: u8)
-    requires { ⌜ (Fit (now s)) × (value < 16) ⌝ }
+    requires { ⌜ (Whole (now s)) × (value < 16) ⌝ }
     ensures { λ _. ⌜ now (s .exit) ≡ commandedOn (now (s .entry)) value ⌝ }
 {
     let t = clock::seconds(wire::get16(s, TIME));
@@ -62,7 +61,7 @@ fn set_mode(s: &mut [u8], value: u8)
 
 // Acts on a request.
 fn obey(s: &mut [u8], request: Request)
-    requires { ⌜ (Fit (now s)) × (queues (Commands.request (asked request)) ≡ true → Free (now s) hk) ⌝ }
+    requires { ⌜ (Whole (now s)) × (queues (Commands.request (asked request)) ≡ true → Free (now s) hk) ⌝ }
     requires { ⌜ ((v : ℕ) → asked request ≡ Commands.setMode v → v < 16) ⌝ }
     ensures { λ _. ⌜ now (s .exit) ≡ obeyedOn (now (s .entry)) (asked request) ⌝ }
 {
@@ -98,7 +97,7 @@ fn decode(f: &[u8]) -> Decoded
 
 // The reply to a command.
 pub fn frame(s: &mut [u8], side: Side, f: &[u8]) -> u8
-    requires { ⌜ (Fit (now s)) × (6 ≤ length (now f)) ⌝ }
+    requires { ⌜ (Whole (now s)) × (6 ≤ length (now f)) ⌝ }
     ensures { λ r. ⌜ told r (now (s .exit)) ≡ toldOn (now (s .entry)) (Meaning.meant (Command side) (now (f .entry))) 126 ⌝ }
 {
     let decoded = decode(f);

@@ -11,7 +11,7 @@ use Rattle.paper.specs.Frames.{Channel, cdmuA, cdmuB, poll, onChannel, f
 use Rattle.paper.specs.Packets.{packetId}
 use Rattle.paper.specs.Queue.{Piece}
 use Rattle.paper.specs.Controller.{at, Controller, start}
-use Rattle.paper.specs.Acts.{noted, shown, shownFrom, answer}
+use Rattle.paper.specs.Acts.{noted, pollOutput, pollOutputFrom, answer}
 use Rattle.paper.specs.Step.{holds, reply, refused, Outcome, replied, step}
 use Rattle.paper.specs.Runs.{runs}
 use Rattle.paper.specs.WorkedCounts.{pollFrame, Begins, Counts}
@@ -25,7 +25,7 @@ poll-frame cdmuB = refl
 -- An accepted poll begins with its channel's ID and the telemetry count of that channel.
 poll-begins : (c : Controller) (cc : Channel) → step c (pollFrame cc) 126 .reply ≡ 0
     → take 4 (step c (pollFrame cc) 126 .out) ≡ bytes16 (packetId cc) ++ bytes16 (0xC000 + at cc (c .tallies .telemetry) % 16384)
-unfolding shown shownFrom answer reply refused replied step
+unfolding pollOutput pollOutputFrom answer reply refused replied step
 poll-begins c cc = rw (poll-frame cc) (by (c .streams .queue) refl)
   where
     o : Outcome

@@ -16,13 +16,13 @@ use Rattle.paper.specs.Impact.{collects}
 use Rattle.paper.specs.Commands.{clear, housekeeping, setMode, Decoded, request, refusal, names, decoded}
 use Rattle.paper.specs.Streams.{acc-i, hk, pieces}
 use Rattle.paper.specs.Packets.{chunks, cut}
-use Rattle.paper.specs.Queue.{Piece, wrap, after, put, without}
+use Rattle.paper.specs.Queue.{Piece, wrap, after, replaced, without}
 use Rattle.paper.specs.Controller.{Both, at, raised, raised8, raisedAt, Tallies, Open, Controller, start, queued, withImpact, stampNow}
 use Rattle.paper.specs.Housekeeping.{housekeepingPacket}
-use Rattle.paper.specs.Acts.{enter, heard, moved, counted as ticked, inProximity, last, completes, taken, watching, ended, impactPacket, completed, ticks, joinedBy, closes, closed, extended, sampled, noted, cleared, commanded, obeyed, polled, performed, polledFrom, accepted, answer}
+use Rattle.paper.specs.Acts.{enter, heard, moved, mRaised, inProximity, last, completes, withReading, watching, ended, impactPacket, completed, ticks, joinedBy, closes, closed, keptOpen, sampled, noted, cleared, commanded, obeyed, pollAnswered, performed, pollAnsweredFrom, accepted, answer}
 use Rattle.paper.specs.Step.{holds, queues, reply, lateHeard, erred, isError, Count, ofBroadcasts, ofCommands, ofPolls, ofNone, countOf, unchanged, lateOn, errorOn, change, changed, refused, Outcome, outcome, replied, step}
 use Rattle.paper.specs.Runs.{Call, runs}
-use Rattle.paper.specs.History.{Counted, history, howMany, sameChannel, broadcastsOn, packetsOn, commandsIn, pollsOn, errorsIn, isAccepted, raisesBroadcasts, raisesPackets, raisesCommands, raisesTelemetry, raisesErrors, fullPacket, onlyIf, sent, sentAt, sentBy, piecesOf, countsAfter, numberedAll, Takes, nothing, theFirst, named, clears, takes, leaves, takesAt}
+use Rattle.paper.specs.History.{Counted, history, howMany, sameChannel, broadcastsOn, packetsOn, commandsIn, pollsOn, errorsIn, isAccepted, raisesBroadcasts, raisesPackets, raisesCommands, raisesTelemetry, raisesErrors, fullPacket, onlyIf, sent, sentAt, sentBy, piecesOf, countsAfter, numberedAll, Takes, nothing, theFirst, named, commandTakes, takes, leaves, takesAt}
 use Rattle.paper.proofs.Refusals.{Clear, passed, refused-any}
 
 -- ---- what packets do to queue and counts
@@ -45,7 +45,7 @@ unfolding numberedAll countsAfter queued
 queues-one c b s x e f =
     record {
       queue = rw (e, f) (ap (λ l. c .streams .queue ++ l) (sym (append-nil _)));
-      counts = ap (λ g. put g s (after wrap (g s) (cut (pieces s) x))) f;
+      counts = ap (λ g. replaced g s (after wrap (g s) (cut (pieces s) x))) f;
     }
 
 -- an entry queues nothing
@@ -85,37 +85,37 @@ queues-completed c e p q = by (e .standing .locked)
     by false = queues-enter c done nothing _ surface false (secondsOf (e .impact .stamp .time)) done-queues
 
 queues-ticks : (c : Controller) (r : ℕ)
-    → Queues c (ticks c r) nothing (onlyIf (completes c) (acc-i, impactPacket (taken (c .impact) r)))
-unfolding ticks ticked completes watching
+    → Queues c (ticks c r) nothing (onlyIf (completes c) (acc-i, impactPacket (withReading (c .impact) r)))
+unfolding ticks mRaised completes watching
 queues-ticks c r = by (inProximity c) (last (c .impact .collection))
   where
     d : Controller
-    d = ticked c
+    d = mRaised c
 
     e : Controller
-    e = withImpact d (taken (c .impact) r)
+    e = withImpact d (withReading (c .impact) r)
 
     by : (b f : Bool)
         → Queues c (cond b (cond (b && f) (completed e) (watching e)) d) nothing
-        (onlyIf (b && f) (acc-i, impactPacket (taken (c .impact) r)))
+        (onlyIf (b && f) (acc-i, impactPacket (withReading (c .impact) r)))
     by true true = queues-completed c e refl refl
     by true false = queues-none c (watching e) nothing refl refl
     by false f = queues-none c d nothing refl refl
 
 queues-sampled : (c : Controller) (s : ℕ) (x : List ℕ)
     → Queues c (sampled c s x) nothing (onlyIf (closes c s) (s, fullPacket c s x))
-unfolding sampled closed extended fullPacket
+unfolding sampled closed keptOpen fullPacket
 queues-sampled c s x = by (closes c s)
   where
     o : Open
     o = joinedBy (c .streams .opened s) (stampNow c s) x
 
-    by : (b : Bool) → Queues c (cond b (closed c s o) (extended c s o)) nothing (onlyIf b (s, fullPacket c s x))
+    by : (b : Bool) → Queues c (cond b (closed c s o) (keptOpen c s o)) nothing (onlyIf b (s, fullPacket c s x))
     by true = queues-one c _ s _ refl refl
-    by false = queues-none c (extended c s o) nothing refl refl
+    by false = queues-none c (keptOpen c s o) nothing refl refl
 
 queues-performed : (c b : Controller) (d : Decoded) → b .streams .queue ≡ c .streams .queue → b .streams .counts ≡ c .streams .counts
-    → Queues c (performed b d) (clears d) (onlyIf (queues d) (hk, housekeepingPacket b))
+    → Queues c (performed b d) (commandTakes d) (onlyIf (queues d) (hk, housekeepingPacket b))
 unfolding performed obeyed cleared commanded
 queues-performed c b (request (clear mask)) e f = queues-none c (cleared b mask) (named mask) (ap (without (names mask)) e) f
 queues-performed c b (request housekeeping) e f = queues-one c b hk (housekeepingPacket b) e f
@@ -125,10 +125,10 @@ queues-performed c b (request (setMode value)) e f =
 queues-performed c b (refusal n) e f = queues-none c b nothing e f
 
 queues-polled : (c : Controller) (cc : Channel) (q : List (Piece (List ℕ))) → c .streams .queue ≡ q
-    → Queues c (polledFrom c cc q) theFirst []
-unfolding polledFrom polled
+    → Queues c (pollAnsweredFrom c cc q) theFirst []
+unfolding pollAnsweredFrom pollAnswered
 queues-polled c cc [] e = queues-none c c theFirst (e ∙ sym (ap (drop 1) e)) refl
-queues-polled c cc (p ∷ rest) e = queues-none c (polled c cc rest) theFirst (sym (ap (drop 1) e)) refl
+queues-polled c cc (p ∷ rest) e = queues-none c (pollAnswered c cc rest) theFirst (sym (ap (drop 1) e)) refl
 
 -- The law that ties `sent` and `takes` to the machine: an accepted frame leaves of the queue, with the packets behind it that it
 -- sends, what it does not take; counts move on by those packets alone, so "cleared pieces have used theirs".
@@ -249,25 +249,25 @@ tallies-completed c = by (c .standing .locked)
     by false = refl
 
 tallies-ticks : (c : Controller) (r : ℕ) → ticks c r .tallies ≡ c .tallies
-unfolding ticks ticked watching
+unfolding ticks mRaised watching
 tallies-ticks c r = by (inProximity c) (completes c)
   where
     e : Controller
-    e = withImpact (ticked c) (taken (c .impact) r)
+    e = withImpact (mRaised c) (withReading (c .impact) r)
 
-    by : (b f : Bool) → cond b (cond f (completed e) (watching e)) (ticked c) .tallies ≡ c .tallies
+    by : (b f : Bool) → cond b (cond f (completed e) (watching e)) (mRaised c) .tallies ≡ c .tallies
     by true true = tallies-completed e
     by true false = refl
     by false f = refl
 
 tallies-sampled : (c : Controller) (s : ℕ) (x : List ℕ) → sampled c s x .tallies ≡ c .tallies
-unfolding sampled closed extended queued
+unfolding sampled closed keptOpen queued
 tallies-sampled c s x = by (closes c s)
   where
     o : Open
     o = joinedBy (c .streams .opened s) (stampNow c s) x
 
-    by : (b : Bool) → cond b (closed c s o) (extended c s o) .tallies ≡ c .tallies
+    by : (b : Bool) → cond b (closed c s o) (keptOpen c s o) .tallies ≡ c .tallies
     by true = refl
     by false = refl
 
@@ -283,8 +283,8 @@ adds-none : (n : ℕ) (t : Tallies) → Adds ofNone n t t
 adds-none n t = record { broadcasts = λ cc. refl; packets = λ cc. refl; telemetry = λ cc. refl; commands = refl; errors = refl }
 
 adds-polled : (c : Controller) (dd : Channel) (q : List (Piece (List ℕ))) → eqb (length q) 0 ≡ false
-    → Adds (ofPolls dd) 0 (c .tallies) (polledFrom c dd q .tallies)
-unfolding polledFrom polled
+    → Adds (ofPolls dd) 0 (c .tallies) (pollAnsweredFrom c dd q .tallies)
+unfolding pollAnsweredFrom pollAnswered
 adds-polled c dd [] h = absurd (eqb-false 0 0 h refl)
 adds-polled c dd (p ∷ rest) h =
     record {
@@ -431,7 +431,7 @@ after-wrap m (x ∷ xs) n e = after-wrap (suc m) xs (wrap n) (omega arith) ∙ a
 
 pub counts-after : (ps : List (ℕ × List ℕ)) (counts : ℕ → ℕ) (t m : ℕ) → counts t ≡ m % 4096
     → countsAfter wrap counts ps t ≡ (m + piecesOf t ps) % 4096
-unfolding countsAfter put
+unfolding countsAfter replaced
 counts-after [] counts t m e = omega arith
 counts-after (p ∷ ps) counts t m e = counts-after ps _ t _ (by (eqb (p .0) t) refl) ∙ ap (λ k. k % 4096) (omega arith)
   where

@@ -21,7 +21,7 @@ use Rattle.paper.specs.Streams.{acc-i, hk, pieces}
 use Rattle.paper.specs.Packets.{fill, pieceSize, filled, chunks, cut}
 use Rattle.paper.specs.Queue.{Piece, wrap, numbered}
 use Rattle.paper.specs.Controller.{Open, Controller, start, queued, withImpact, stampNow}
-use Rattle.paper.specs.Acts.{emptied, enter, heard, moved, counted, inProximity, last, completes, taken, watching, ended, impactPacket, completed, ticks, joinedBy, closes, closed, extended, sampled, noted, cleared, commanded, obeyed, shown, polled, performed, polledFrom, shownFrom, accepted, answer}
+use Rattle.paper.specs.Acts.{emptied, enter, heard, moved, mRaised, inProximity, last, completes, withReading, watching, ended, impactPacket, completed, ticks, joinedBy, closes, closed, keptOpen, sampled, noted, cleared, commanded, obeyed, pollOutput, pollAnswered, performed, pollAnsweredFrom, pollOutputFrom, accepted, answer}
 use Rattle.paper.specs.Step.{holds, reply, lateHeard, erred, refused, outcome, replied, step}
 use Rattle.paper.specs.Runs.{Call, runs}
 use Rattle.paper.proofs.All.{All, all-append, all-without}
@@ -172,14 +172,14 @@ kept-completed c w = at (c .standing .locked)
     at false = kept-enter done surface false (secondsOf (c .impact .stamp .time)) whole-done refl
 
 kept-ticks : (c : Controller) (r : ℕ) → Kept c → Kept (ticks c r)
-unfolding ticks counted
+unfolding ticks mRaised
 kept-ticks c r k = at (inProximity c) refl (completes c)
   where
     d : Controller
-    d = counted c
+    d = mRaised c
 
     e : Controller
-    e = withImpact d (taken (c .impact) r)
+    e = withImpact d (withReading (c .impact) r)
 
     at : (b : Bool) → inProximity c ≡ b → (f : Bool)
         → Kept (cond b (cond f (completed e) (watching e)) d)
@@ -190,13 +190,13 @@ kept-ticks c r k = at (inProximity c) refl (completes c)
 -- ---- samples, commands, polls
 
 kept-sampled : (c : Controller) (s : ℕ) (x : List ℕ) → Kept c → Kept (sampled c s x)
-unfolding sampled closed extended
+unfolding sampled closed keptOpen
 kept-sampled c s x k = at (closes c s)
   where
     o : Open
     o = joinedBy (c .streams .opened s) (stampNow c s) x
 
-    at : (b : Bool) → Kept (cond b (closed c s o) (extended c s o))
+    at : (b : Bool) → Kept (cond b (closed c s o) (keptOpen c s o))
     at true = kept-queued _ s _ (record { whole = k .whole; proximal = k .proximal })
     at false = record { whole = k .whole; proximal = k .proximal }
 
@@ -212,8 +212,8 @@ unfolding performed
 kept-performed c (request q) k = kept-obeyed c q k
 kept-performed c (refusal n) k = k
 
-kept-polled : (c : Controller) (cc : Channel) (q : List (Piece (List ℕ))) → c .streams .queue ≡ q → Kept c → Kept (polledFrom c cc q)
-unfolding polledFrom polled
+kept-polled : (c : Controller) (cc : Channel) (q : List (Piece (List ℕ))) → c .streams .queue ≡ q → Kept c → Kept (pollAnsweredFrom c cc q)
+unfolding pollAnsweredFrom pollAnswered
 kept-polled c cc [] e k = k
 kept-polled c cc (p ∷ rest) e k = record { whole = (rw e at (k .whole)) .1; proximal = k .proximal }
 
@@ -271,8 +271,8 @@ written (status cc low flags) = 2
 written (analogue bytes) = 0
 written faulty = 0
 
-shown-size : (c : Controller) (cc : Channel) (q : List (Piece (List ℕ))) → Whole q → (length q ≡ 0 → ⊥) → length (shownFrom c cc q) ≡ 126
-unfolding shownFrom shown
+shown-size : (c : Controller) (cc : Channel) (q : List (Piece (List ℕ))) → Whole q → (length q ≡ 0 → ⊥) → length (pollOutputFrom c cc q) ≡ 126
+unfolding pollOutputFrom pollOutput
 shown-size c cc [] w h = absurd (h refl)
 shown-size c cc (p ∷ rest) w h = omega (arith, w .0)
 

@@ -13,7 +13,7 @@ use Rattle.paper.specs.Impact.{Impact, Stamp, above, noComparison, compa
 use Rattle.paper.specs.Commands.{Request, clear, housekeeping, setMode, Decoded, request, refusal, names, decoded}
 use Rattle.paper.specs.Streams.{acc-i, hk, pieces, perPacket}
 use Rattle.paper.specs.Packets.{pack, dataOf, datastream, packetId, packetLength}
-use Rattle.paper.specs.Queue.{Piece, put, without, free}
+use Rattle.paper.specs.Queue.{Piece, replaced, without, free}
 use Rattle.paper.specs.Controller.{Both, at, raised, raisedAt, Tallies, withBroadcasts, withPackets, withTelemetry, withCommands, withLast, Open, nothingOpen, Streams, withOpened, withQueue, Controller, withClock, withStanding, withImpact, withTallies, withHoused, withStreams, stampNow, queued}
 use Rattle.paper.specs.Housekeeping.{housekeepingPacket}
 use Rattle.paper.specs.Status.{flagsOf, Shown, wordA, wordB}
@@ -52,8 +52,8 @@ moved c =
 -- ---- tick
 
 -- "accepted, first adds one to m"
-unfoldable pub counted : Controller → Controller
-counted c =
+unfoldable pub mRaised : Controller → Controller
+mRaised c =
     withClock c
     (record {
       time = c .clock .time;
@@ -75,8 +75,8 @@ unfoldable pub completes : Controller → Bool
 completes c = inProximity c && last (c .impact .collection)
 
 -- "In mode 4, locked or not, each reading enters a ring of 512 .. and is compared"
-unfoldable pub taken : Impact → ℕ → Impact
-taken i r =
+unfoldable pub withReading : Impact → ℕ → Impact
+withReading i r =
     record {
       flag = i .flag;
       stamp = i .stamp;
@@ -120,8 +120,8 @@ watching c = withImpact c (watched (c .impact .collection) (c .impact) (stampNow
 
 unfoldable pub ticks : Controller → ℕ → Controller
 ticks c r =
-    let d : Controller = counted c in
-    let e : Controller = withImpact d (taken (c .impact) r) in
+    let d : Controller = mRaised c in
+    let e : Controller = withImpact d (withReading (c .impact) r) in
     cond (inProximity c) (cond (completes c) (completed e) (watching e)) d
 
 -- ---- sample
@@ -137,16 +137,16 @@ closes c s = eqb (suc (length (c .streams .opened s .samples))) (perPacket s)
 -- "When full, it is .. queued", and no packet of that stream is open
 unfoldable pub closed : Controller → ℕ → Open → Controller
 closed c s o =
-    queued (withStreams c (withOpened (c .streams) (put (c .streams .opened) s nothingOpen))) s
+    queued (withStreams c (withOpened (c .streams) (replaced (c .streams .opened) s nothingOpen))) s
     (datastream (o .stamp) (dataOf s (o .samples)))
 
-unfoldable pub extended : Controller → ℕ → Open → Controller
-extended c s o = withStreams c (withOpened (c .streams) (put (c .streams .opened) s o))
+unfoldable pub keptOpen : Controller → ℕ → Open → Controller
+keptOpen c s o = withStreams c (withOpened (c .streams) (replaced (c .streams .opened) s o))
 
 unfoldable pub sampled : Controller → ℕ → List ℕ → Controller
 sampled c s x =
     let o : Open = joinedBy (c .streams .opened s) (stampNow c s) x in
-    cond (closes c s) (closed c s o) (extended c s o)
+    cond (closes c s) (closed c s o) (keptOpen c s o)
 
 -- ---- command
 
@@ -185,14 +185,14 @@ obeyed c (setMode value) = commanded c value
 
 -- "Poll output: 0F94 on A or 0FB4 on B; C000 plus that channel's telemetry count modulo 16384 ..; 0077; count times 16 plus
 -- stream; 118 bytes."
-unfoldable pub shown : Channel → Both → Piece (List ℕ) → List ℕ
-shown cc telemetry p =
+unfoldable pub pollOutput : Channel → Both → Piece (List ℕ) → List ℕ
+pollOutput cc telemetry p =
     bytes16 (packetId cc) ++ bytes16 (0xC000 + at cc telemetry % 16384) ++ bytes16 packetLength
     ++ bytes16 (p .count * 16 + p .stream) ++ p .body
 
 -- "the count rising afterwards"; the first piece is gone
-unfoldable pub polled : Controller → Channel → List (Piece (List ℕ)) → Controller
-polled c cc rest =
+unfoldable pub pollAnswered : Controller → Channel → List (Piece (List ℕ)) → Controller
+pollAnswered c cc rest =
     withTallies (withStreams c (withQueue (c .streams) rest)) (withTelemetry (c .tallies) (raisedAt cc (c .tallies .telemetry)))
 
 -- ---- status
@@ -211,13 +211,13 @@ unfoldable pub performed : Controller → Decoded → Controller
 performed c (request q) = obeyed c q
 performed c (refusal n) = c
 
-unfoldable pub polledFrom : Controller → Channel → List (Piece (List ℕ)) → Controller
-polledFrom c cc [] = c
-polledFrom c cc (p ∷ rest) = polled c cc rest
+unfoldable pub pollAnsweredFrom : Controller → Channel → List (Piece (List ℕ)) → Controller
+pollAnsweredFrom c cc [] = c
+pollAnsweredFrom c cc (p ∷ rest) = pollAnswered c cc rest
 
-unfoldable pub shownFrom : Controller → Channel → List (Piece (List ℕ)) → List ℕ
-shownFrom c cc [] = []
-shownFrom c cc (p ∷ rest) = shown cc (c .tallies .telemetry) p
+unfoldable pub pollOutputFrom : Controller → Channel → List (Piece (List ℕ)) → List ℕ
+pollOutputFrom c cc [] = []
+pollOutputFrom c cc (p ∷ rest) = pollOutput cc (c .tallies .telemetry) p
 
 -- the controller after an accepted frame
 unfoldable pub accepted : Controller → Frame → Controller
@@ -225,7 +225,7 @@ accepted c (broadcast cc time altitude spin phase) = moved (heard c cc time alti
 accepted c (command cc id sequence parameters) = performed (noted c cc id sequence) (decoded id parameters)
 accepted c (tick r) = ticks c r
 accepted c (sample s x) = sampled c s x
-accepted c (poll cc) = polledFrom c cc (c .streams .queue)
+accepted c (poll cc) = pollAnsweredFrom c cc (c .streams .queue)
 accepted c (status cc low flags) = c
 accepted c (analogue bytes) = withHoused c bytes
 accepted c faulty = c
@@ -236,7 +236,7 @@ answer c (broadcast cc time altitude spin phase) = []
 answer c (command cc id sequence parameters) = []
 answer c (tick r) = []
 answer c (sample s x) = []
-answer c (poll cc) = shownFrom c cc (c .streams .queue)
+answer c (poll cc) = pollOutputFrom c cc (c .streams .queue)
 answer c (status cc low flags) = bytes16 (statusWord c cc low flags)
 answer c (analogue bytes) = []
 answer c faulty = []

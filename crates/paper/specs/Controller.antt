@@ -10,7 +10,7 @@ use Rattle.paper.specs.Mode.{Standing, upper, nibble}
 use Rattle.paper.specs.Impact.{Impact, Stamp, noComparison, noReading, idle}
 use Rattle.paper.specs.Streams.{pieces}
 use Rattle.paper.specs.Packets.{modeByte, cut}
-use Rattle.paper.specs.Queue.{Piece, wrap, numbered, after, put}
+use Rattle.paper.specs.Queue.{Piece, wrap, numbered, after, replaced}
 
 -- a count for each channel
 pub record Both : Type 0 where
@@ -252,7 +252,7 @@ abbrev pub withPacket : Streams → ℕ → List ℕ → Streams
 withPacket k s x =
     record {
       opened = k .opened;
-      counts = put (k .counts) s (after wrap (k .counts s) (cut (pieces s) x));
+      counts = replaced (k .counts) s (after wrap (k .counts s) (cut (pieces s) x));
       queue = k .queue ++ numbered wrap s (k .counts s) (cut (pieces s) x);
     }
 

@@ -31,12 +31,13 @@ Hold (e ∷ es) = (e .got ≡ e .said) × Hold es
 
 -- ---- frames
 
-abbrev pub sent : List (List ℕ) → List Call
-sent = map (λ f. call f 126)
+-- frames as calls, each with an output of 126 bytes
+abbrev pub callsFor : List (List ℕ) → List Call
+callsFor = map (λ f. call f 126)
 
 -- a broadcast on A
-abbrev pub told : ℕ → ℕ → List ℕ
-told time altitude = 0x01 ∷ 0x0A ∷ (bytes16 time ++ bytes16 altitude ++ (0 ∷ 0 ∷ []))
+abbrev pub broadcasting : ℕ → ℕ → List ℕ
+broadcasting time altitude = 0x01 ∷ 0x0A ∷ (bytes16 time ++ bytes16 altitude ++ (0 ∷ 0 ∷ []))
 
 abbrev pub ticking : ℕ → List ℕ
 ticking r = 0x03 ∷ bytes16 r
@@ -48,17 +49,17 @@ setting mode = 0x02 ∷ 0x0A ∷ 0x00 ∷ 0x32 ∷ 0x00 ∷ 0x01 ∷ bytes16 mod
 
 -- the mode of a fresh controller after a broadcast
 unfoldable pub modeAfter : ℕ → ℕ → ℕ
-modeAfter time altitude = number (runs start (sent (told time altitude ∷ [])) .standing .mode)
+modeAfter time altitude = number (runs start (callsFor (broadcasting time altitude ∷ [])) .standing .mode)
 
 -- the impact flag after each of some readings, from an entry to mode 4 on
 unfoldable pub flags : Controller → List ℕ → List Bool
 flags c [] = []
 flags c (r ∷ rs) =
-    let d : Controller = runs c (sent (ticking r ∷ [])) in
+    let d : Controller = runs c (callsFor (ticking r ∷ [])) in
     (d .impact .flag) ∷ flags d rs
 
 unfoldable pub flagsFrom4 : List ℕ → List Bool
-flagsFrom4 rs = flags (runs start (sent (setting 4 ∷ []))) rs
+flagsFrom4 rs = flags (runs start (callsFor (setting 4 ∷ []))) rs
 
 -- two ACC-E packets, of 512 bytes 01 and 512 bytes 02, taken in mode 5 and polled on B: the ten pieces
 unfoldable pub tenPieces : List (List ℕ)
@@ -66,17 +67,17 @@ tenPieces =
     map (λ o. o .1)
     (drop 3
     (replies start
-    (sent
+    (callsFor
     (setting 5 ∷ (0x04 ∷ 0x0B ∷ replicate 512 0x01) ∷ (0x04 ∷ 0x0B ∷ replicate 512 0x02) ∷ replicate 10 (0x05 ∷ 0x0B ∷ [])))))
 
 -- what a fresh reader hands out of some packets
-unfoldable pub handedOut : List (ℕ × List ℕ) → List (List ℕ)
-handedOut [] = []
-handedOut (h ∷ hs) = cond (eqb (h .0) 1) ((h .1) ∷ handedOut hs) (handedOut hs)
+unfoldable pub packetsOut : List (ℕ × List ℕ) → List (List ℕ)
+packetsOut [] = []
+packetsOut (h ∷ hs) = cond (eqb (h .0) 1) ((h .1) ∷ packetsOut hs) (packetsOut hs)
 
 -- pieces 0, 1, 3 to 9
 unfoldable pub withoutThird : List (List ℕ) → List (List ℕ)
-withoutThird ps = handedOut (readings readerStart (map (λ f. call f 776) (take 2 ps ++ drop 3 ps)))
+withoutThird ps = packetsOut (readings readerStart (map (λ f. call f 776) (take 2 ps ++ drop 3 ps)))
 
 -- ---- the list
 
@@ -126,8 +127,8 @@ session =
     ∷ []
     ∷ []
 
-abbrev pub answers : List (ℕ × List ℕ)
-answers =
+abbrev pub sessionAnswers : List (ℕ × List ℕ)
+sessionAnswers =
     (0x00, [])
     ∷ (0x00, 0x65 ∷ 0x5A ∷ [])
     ∷ (0x00, 0x20 ∷ 0x5A ∷ [])
@@ -141,4 +142,4 @@ answers =
 
 -- "the session, is run and compared": on the definitions too
 abbrev pub SessionHolds : Type 0
-SessionHolds = replies start (sent session) ≡ answers
+SessionHolds = replies start (callsFor session) ≡ sessionAnswers

@@ -11,10 +11,10 @@ use Rattle.paper.specs.Frames.{Channel, cdmuA, cdmuB, Frame, broadcast, 
 use Rattle.paper.specs.Commands.{clear, housekeeping, setMode, Decoded, request, refusal, names, decoded}
 use Rattle.paper.specs.Streams.{acc-i, hk, pieces}
 use Rattle.paper.specs.Packets.{dataOf, datastream, cut}
-use Rattle.paper.specs.Queue.{Piece, numbered, after, put, without}
+use Rattle.paper.specs.Queue.{Piece, numbered, after, replaced, without}
 use Rattle.paper.specs.Controller.{at, Open, Controller, stampNow}
 use Rattle.paper.specs.Housekeeping.{housekeepingPacket}
-use Rattle.paper.specs.Acts.{completes, taken, impactPacket, joinedBy, closes, noted}
+use Rattle.paper.specs.Acts.{completes, withReading, impactPacket, joinedBy, closes, noted}
 use Rattle.paper.specs.Step.{queues, isError, Count, ofBroadcasts, ofCommands, ofPolls, ofNone, countOf, Outcome, step}
 use Rattle.paper.specs.Runs.{Call}
 
@@ -118,7 +118,7 @@ unfoldable pub sent : Controller → Frame → List (ℕ × List ℕ)
 sent c (broadcast cc time altitude spin phase) = []
 sent c (command cc id sequence parameters) =
     onlyIf (queues (decoded id parameters)) (hk, housekeepingPacket (noted c cc id sequence))
-sent c (tick r) = onlyIf (completes c) (acc-i, impactPacket (taken (c .impact) r))
+sent c (tick r) = onlyIf (completes c) (acc-i, impactPacket (withReading (c .impact) r))
 sent c (sample s x) = onlyIf (closes c s) (s, fullPacket c s x)
 sent c (poll cc) = []
 sent c (status cc low flags) = []
@@ -158,14 +158,14 @@ unfoldable pub countsAfter : (ℕ → ℕ) → (ℕ → ℕ) → List (ℕ × Li
 countsAfter on counts [] = counts
 countsAfter on counts (p ∷ ps) =
     let s : ℕ = p .0 in
-    countsAfter on (put counts s (after on (counts s) (cut (pieces s) (p .1)))) ps
+    countsAfter on (replaced counts s (after on (counts s) (cut (pieces s) (p .1)))) ps
 
 unfoldable pub numberedAll : (ℕ → ℕ) → (ℕ → ℕ) → List (ℕ × List ℕ) → List (Piece (List ℕ))
 numberedAll on counts [] = []
 numberedAll on counts (p ∷ ps) =
     let s : ℕ = p .0 in
     numbered on s (counts s) (cut (pieces s) (p .1))
-    ++ numberedAll on (put counts s (after on (counts s) (cut (pieces s) (p .1)))) ps
+    ++ numberedAll on (replaced counts s (after on (counts s) (cut (pieces s) (p .1)))) ps
 
 -- What an accepted frame takes of the pieces that wait, its own among them: none; the first, by a poll; "waiting pieces of named
 -- streams go".
@@ -174,15 +174,15 @@ pub data Takes : Type 0 where
   theFirst : Takes
   named : ℕ → Takes
 
-abbrev pub clears : Decoded → Takes
-clears (request (clear mask)) = named mask
-clears (request housekeeping) = nothing
-clears (request (setMode value)) = nothing
-clears (refusal n) = nothing
+abbrev pub commandTakes : Decoded → Takes
+commandTakes (request (clear mask)) = named mask
+commandTakes (request housekeeping) = nothing
+commandTakes (request (setMode value)) = nothing
+commandTakes (refusal n) = nothing
 
 abbrev pub takes : Frame → Takes
 takes (broadcast cc time altitude spin phase) = nothing
-takes (command cc id sequence parameters) = clears (decoded id parameters)
+takes (command cc id sequence parameters) = commandTakes (decoded id parameters)
 takes (tick r) = nothing
 takes (sample s x) = nothing
 takes (poll cc) = theFirst

@@ -37,8 +37,8 @@ after on n [] = n
 after on n (x ∷ xs) = after on (on n) xs
 
 -- what is kept for each stream, with the one of stream s replaced
-unfoldable pub put : {X : Type 0} → (ℕ → X) → ℕ → X → ℕ → X
-put of s x t = cond (eqb s t) x (of t)
+unfoldable pub replaced : {X : Type 0} → (ℕ → X) → ℕ → X → ℕ → X
+replaced of s x t = cond (eqb s t) x (of t)
 
 -- "Open samples and waiting pieces of named streams go, the rest keep their order, slots are free again."
 unfoldable pub without : {A : Type 0} → (ℕ → Bool) → List (Piece A) → List (Piece A)

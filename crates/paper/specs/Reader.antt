@@ -9,7 +9,7 @@ use Rattle.wire.specs.Wire.{be16}
 use Rattle.paper.specs.Frames.{cdmuA, cdmuB}
 use Rattle.paper.specs.Streams.{pieces, listed, carried}
 use Rattle.paper.specs.Packets.{joined, opening, closing, fill, packetId, packetLength, packetSize}
-use Rattle.paper.specs.Queue.{put}
+use Rattle.paper.specs.Queue.{replaced}
 
 -- ---- the record of one stream
 
@@ -35,31 +35,31 @@ placed k place d = (place + d) % k
 
 -- What an arriving piece does: it repeats, and the record stays; it is taken, and leaves a record; or it finishes a packet, and
 -- leaves a record and the packet's pieces.
-pub data Arrival (A : Type 0) : Type 0 where
-  repeated : Arrival A
-  taken : Track A → Arrival A
-  finished : Track A → List A → Arrival A
+pub data ArrivalEffect (A : Type 0) : Type 0 where
+  repeated : ArrivalEffect A
+  taken : Track A → ArrivalEffect A
+  finished : Track A → List A → ArrivalEffect A
 
 -- "The last place of a running gathering hands out the packet .. and ends the gathering."
-abbrev pub gathers : {A : Type 0} → Bool → ℕ → ℕ → List A → Arrival A
+abbrev pub gathers : {A : Type 0} → Bool → ℕ → ℕ → List A → ArrivalEffect A
 gathers true count place g = finished (record { last = count; place = place; running = false; gathered = [] }) g
 gathers false count place g = taken (record { last = count; place = place; running = true; gathered = g })
 
 -- "at place 0 gathering starts anew; at d = 1 a running gathering goes on; otherwise it is dropped"
-abbrev pub moves : {A : Type 0} → (anew goesOn atLast : Bool) → ℕ → ℕ → List A → A → Arrival A
+abbrev pub moves : {A : Type 0} → (anew goesOn atLast : Bool) → ℕ → ℕ → List A → A → ArrivalEffect A
 moves true goesOn atLast count place g x = gathers atLast count place (x ∷ [])
 moves false true atLast count place g x = gathers atLast count place (g ++ (x ∷ []))
 moves false false atLast count place g x = taken (record { last = count; place = place; running = false; gathered = [] })
 
 -- "If 0: repeat. Else the place moves on"
-abbrev pub arrives : {A : Type 0} → Bool → ℕ → Track A → ℕ → ℕ → A → Arrival A
+abbrev pub arrives : {A : Type 0} → Bool → ℕ → Track A → ℕ → ℕ → A → ArrivalEffect A
 arrives true k t count d x = repeated
 arrives false k t count d x =
     let place : ℕ = placed k (t .place) d in
     moves (eqb place 0) (eqb d 1 && t .running) (eqb place (k - 1)) count place (t .gathered) x
 
 -- a piece with its count arrives at the record of a stream of k pieces
-unfoldable pub arrive : {A : Type 0} → ℕ → Track A → ℕ → A → Arrival A
+unfoldable pub arrive : {A : Type 0} → ℕ → Track A → ℕ → A → ArrivalEffect A
 arrive k t count x =
     let d : ℕ = distance (t .last) count in
     arrives (eqb d 0) k t count d x
@@ -107,27 +107,27 @@ Reader = ℕ → Track (List ℕ)
 unfoldable pub readerStart : Reader
 readerStart s = fresh (pieces s)
 
-pub record Heard : Type 0 where
+pub record ReaderOutcome : Type 0 where
   pub reply : ℕ
   pub out : List ℕ
   pub next : Reader
 
-abbrev pub heard : ℕ → List ℕ → Reader → Heard
-heard n o r = record { reply = n; out = o; next = r }
+abbrev pub readerOutcome : ℕ → List ℕ → Reader → ReaderOutcome
+readerOutcome n o r = record { reply = n; out = o; next = r }
 
 -- "22 repeat"; "0 taken"; "1 handed out .. at its listed length"; "23 finished but opening, closing or fill bytes are wrong
 -- (record moved on, gathering empty)"
-unfoldable pub received : Reader → ℕ → Arrival (List ℕ) → Heard
-received r s repeated = heard 22 [] r
-received r s (taken t) = heard 0 [] (put r s t)
+unfoldable pub received : Reader → ℕ → ArrivalEffect (List ℕ) → ReaderOutcome
+received r s repeated = readerOutcome 22 [] r
+received r s (taken t) = readerOutcome 0 [] (replaced r s t)
 received r s (finished t g) =
-    cond (sound s (joined g)) (heard 1 (take (listed s) (joined g)) (put r s t)) (heard 23 [] (put r s t))
+    cond (sound s (joined g)) (readerOutcome 1 (take (listed s) (joined g)) (replaced r s t)) (readerOutcome 23 [] (replaced r s t))
 
-unfoldable pub understood : Reader → Packet → Heard
+unfoldable pub understood : Reader → Packet → ReaderOutcome
 understood r (packet s count x) = received r s (arrive (pieces s) (r s) count x)
-understood r notCarried = heard 21 [] r
-understood r noPacket = heard 20 [] r
+understood r notCarried = readerOutcome 21 [] r
+understood r noPacket = readerOutcome 20 [] r
 
 -- "Order 25, 24, 20, 21, 22, 23." (25, a lent state that is unfit, comes before any reader is there.) "24 output under 776"
-unfoldable pub readerStep : Reader → List ℕ → ℕ → Heard
-readerStep r bytes room = cond (ltb room 776) (heard 24 [] r) (understood r (packetOf bytes))
+unfoldable pub readerStep : Reader → List ℕ → ℕ → ReaderOutcome
+readerStep r bytes room = cond (ltb room 776) (readerOutcome 24 [] r) (understood r (packetOf bytes))

@@ -4,7 +4,7 @@ use mathlib.Core.List.{List, [], _∷_}
 use Prim.Native.Nat.{ℕ}
 use Rattle.paper.specs.Controller.{Controller}
 use Rattle.paper.specs.Step.{Outcome, step}
-use Rattle.paper.specs.Reader.{Reader, Heard, readerStep}
+use Rattle.paper.specs.Reader.{Reader, ReaderOutcome, readerStep}
 
 -- a call: the bytes of a frame or packet, and the length of the output that is lent with it
 pub record Call : Type 0 where
@@ -34,5 +34,5 @@ reads r (x ∷ xs) = reads (readerStep r (x .bytes) (x .room) .next) xs
 unfoldable pub readings : Reader → List Call → List (ℕ × List ℕ)
 readings r [] = []
 readings r (x ∷ xs) =
-    let h : Heard = readerStep r (x .bytes) (x .room) in
+    let h : ReaderOutcome = readerStep r (x .bytes) (x .room) in
     (h .reply, h .out) ∷ readings (h .next) xs

@@ -10,8 +10,7 @@ use Rattle.wire.specs.Wire.{be16}
 use Rattle.paper.specs.Frames.{Channel, Frame, broadcast, command, tick, sample, poll, status, analogue, faulty, frameOf}
 use Rattle.paper.specs.Clock.{seconds}
 use Rattle.paper.specs.Commands.{Request, clear, housekeeping, setMode, Decoded, request, refusal, decoded, refusedWith}
-use Rattle.paper.specs.Streams.{acc-i, hk, Form, ofBytes, of12Bits, pieces, width, form, takenIn}
-use Rattle.paper.specs.Streams as table
+use Rattle.paper.specs.Streams.{acc-i, hk, Form, ofBytes, of12Bits, pieces, width, form, hasSamples, takenIn}
 use Rattle.paper.specs.Packets.{packetSize}
 use Rattle.paper.specs.Queue.{free}
 use Rattle.paper.specs.Controller.{raisedAt, raised8, Tallies, withBroadcasts, withPackets, withError, Controller, withTallies}
@@ -51,7 +50,7 @@ grounds c (command cc id sequence parameters) =
 grounds c (tick r) = (4, ltb 4095 r) ∷ (7, completes c && crowded c acc-i) ∷ []
 -- "Sample frames exist for 4, 5, 6, 9 and B; any other stream in one gets 2."; "A closing sample without room gets 7 and isn't kept."
 grounds c (sample s x) =
-    (2, not (table.sampled s))
+    (2, not (hasSamples s))
     ∷ (3, not (eqb (length x) (width s)))
     ∷ (4, tooGreat (form s) x)
     ∷ (6, not (takenIn s (c .standing .mode)))

@@ -8,8 +8,8 @@ use lib.ListN.{replicate}
 use Rattle.paper.specs.WorkedLines.{Line, line, hex, upward, _gets_, _from_shows_, _lent_, times, tickEach, pollsB}
 
 -- a sample of zeros
-abbrev zeros : (s width : ℕ) → List Line
-zeros s width = line (0x04 ∷ s ∷ replicate width 0) 0 [] ∷ []
+abbrev zeroSample : (s width : ℕ) → List Line
+zeroSample s width = line (0x04 ∷ s ∷ replicate width 0) 0 [] ∷ []
 
 -- ---- a packet in which every field is nonzero and different from every other
 
@@ -21,14 +21,14 @@ every-field =
     ∷ line (0x07 ∷ upward 0xC0 58) 0 []
     ∷ []
     -- packets of API-V, DEN, PER and TIL: 1, 2, 3 and 4
-    ++ times 36 (zeros 0x04 3)
-    ++ times 144 (zeros 0x05 2)
-    ++ times 108 (zeros 0x06 3)
-    ++ times 72 (zeros 0x09 6)
+    ++ times 36 (zeroSample 0x04 3)
+    ++ times 144 (zeroSample 0x05 2)
+    ++ times 108 (zeroSample 0x06 3)
+    ++ times 72 (zeroSample 0x09 6)
     -- one of ACC-E, in 5 pieces, and one of ACC-I, in 7, after 451 ticks (1C3) in mode 4, locked
     ++ "02 0A 0032 0000 0005" gets 0
     ∷ []
-    ++ zeros 0x0B 512
+    ++ zeroSample 0x0B 512
     ++ "02 0A 0032 0000 000C" gets 0
     ∷ []
     ++ tickEach (replicate 451 0x7FF)

@@ -17,7 +17,7 @@ use lib.ListN.{length, take, drop}
 use Rattle.wire.specs.Wire.{bytes16}
 use Rattle.paper.specs.Controller.{Controller, start}
 use Rattle.paper.specs.Step.{Outcome, step}
-use Rattle.paper.specs.Reader.{Reader, Heard, readerStart, readerStep}
+use Rattle.paper.specs.Reader.{Reader, ReaderOutcome, readerStart, readerStep}
 
 -- ---- bytes as text
 
@@ -133,7 +133,7 @@ abbrev pub asController : Controller → List ℕ → ℕ → ℕ × List ℕ ×
 asController c f room = let o : Outcome = step c f room in (o .reply, o .out, o .next)
 
 abbrev pub asReader : Reader → List ℕ → ℕ → ℕ × List ℕ × Reader
-asReader r f room = let h : Heard = readerStep r f room in (h .reply, h .out, h .next)
+asReader r f room = let h : ReaderOutcome = readerStep r f room in (h .reply, h .out, h .next)
 
 -- a fresh controller, and a fresh reader, answer every line as the table says
 abbrev pub Answers : List Line → Type 0

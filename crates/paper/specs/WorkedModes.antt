@@ -76,8 +76,8 @@ one-change =
     ∷ []
 
 -- seconds 600, 5100, 7200, 9060 and 16383 at 7 km, with the mode (twice, and one command) after each
-abbrev over : String → List Line
-over word =
+abbrev throughDescent : String → List Line
+throughDescent word =
     "01 0A 0960 02BC 00 00" gets 0
     ∷ "06 0A 00 00" gives word
     ∷ "01 0A 4FB0 02BC 00 00" gets 0
@@ -92,29 +92,29 @@ over word =
 
 -- "modes 0, 6 and 7 stay"
 abbrev pub stays-0 : List Line
-stays-0 = "02 0A 0032 0000 0000" gets 0 ∷ over "1000"
+stays-0 = "02 0A 0032 0000 0000" gets 0 ∷ throughDescent "1000"
 
 abbrev pub stays-6 : List Line
-stays-6 = "02 0A 0032 0000 0006" gets 0 ∷ over "1C00"
+stays-6 = "02 0A 0032 0000 0006" gets 0 ∷ throughDescent "1C00"
 
 abbrev pub stays-7 : List Line
-stays-7 = "02 0A 0032 0000 0007" gets 0 ∷ over "1E00"
+stays-7 = "02 0A 0032 0000 0007" gets 0 ∷ throughDescent "1E00"
 
 -- "if unlocked": locked modes 1 to 5 stay
 abbrev pub locked-1 : List Line
-locked-1 = "02 0A 0032 0000 0009" gets 0 ∷ over "1200"
+locked-1 = "02 0A 0032 0000 0009" gets 0 ∷ throughDescent "1200"
 
 abbrev pub locked-2 : List Line
-locked-2 = "02 0A 0032 0000 000A" gets 0 ∷ over "1400"
+locked-2 = "02 0A 0032 0000 000A" gets 0 ∷ throughDescent "1400"
 
 abbrev pub locked-3 : List Line
-locked-3 = "02 0A 0032 0000 000B" gets 0 ∷ over "1600"
+locked-3 = "02 0A 0032 0000 000B" gets 0 ∷ throughDescent "1600"
 
 abbrev pub locked-4 : List Line
-locked-4 = "02 0A 0032 0000 000C" gets 0 ∷ over "1800"
+locked-4 = "02 0A 0032 0000 000C" gets 0 ∷ throughDescent "1800"
 
 abbrev pub locked-5 : List Line
-locked-5 = "02 0A 0032 0000 000D" gets 0 ∷ over "1A00"
+locked-5 = "02 0A 0032 0000 000D" gets 0 ∷ throughDescent "1A00"
 
 -- ---- "0032 set mode .. mode is the value modulo 8, locked from 8 up"
 

@@ -1,3 +1,3 @@
--- The laws that the proofs of this crate lean on.
+-- The reply to a sample by what stands in the lent bytes, and what storing one leaves there.
 -- Assumes nothing.
-pub mod Judged
+pub mod SampleReply

@@ -29,7 +29,7 @@ use Rattle.machine.specs.Called.{stepOf, startOf}
 use Rattle.machine.specs.Runs.{Agrees}
 use Rattle.machine.proofs.Fresh.{start-view, start-fit}
 use Rattle.machine.proofs.Steps.{steps}
-use Rattle.session.specs.Bench.{written, blank, answerTo, begun}
+use Rattle.session.specs.Bench.{bytesWritten, blank, answerTo, begun}
 use Rattle.session.specs.Programs.{bench}
 use Rattle.session.specs.Says.{benchLine, linesOf, lent}
 
@@ -37,15 +37,15 @@ use Rattle.session.specs.Says.{benchLine, linesOf, lent}
 
 -- of a frame that is not faulty
 abbrev Counts : Controller → List ℕ → Frame → Type 0
-Counts c f x = Clear c x 1 → written 0 f ≡ writtenFor x
+Counts c f x = Clear c x 1 → bytesWritten 0 f ≡ writtenFor x
 
 module _ (c : Controller) (f : List ℕ) where
   none : Counts c f faulty
   none e = absurd (true≢false e)
 
   -- a first byte k, tested with the frame's size
-  by : (k : ℕ) (sized : Bool) → (kind f k && sized) ≡ true → written 0 f ≡ cond (eqb k 5) 126 (cond (eqb k 6) 2 0)
-  unfolding written
+  by : (k : ℕ) (sized : Bool) → (kind f k && sized) ≡ true → bytesWritten 0 f ≡ cond (eqb k 5) 126 (cond (eqb k 6) 2 0)
+  unfolding bytesWritten
   by k sized e = ap (λ (n : ℕ). cond (eqb n 5) 126 (cond (eqb n 6) 2 0)) (eqb-true (byte f 0) k (first (kind f k) e))
     where
       first : (a : Bool) → (a && sized) ≡ true → a ≡ true
@@ -68,19 +68,19 @@ module _ (c : Controller) (f : List ℕ) where
 
 -- the front of an output that is printed is what document 01's controller wrote
 front : (c : Controller) (f : List ℕ) (room : ℕ) (o : List ℕ) → Kept c
-    → take (written (step c f room .reply) f) (put o 0 (step c f room .out)) ≡ step c f room .out
-unfolding written
+    → take (bytesWritten (step c f room .reply) f) (put o 0 (step c f room .out)) ≡ step c f room .out
+unfolding bytesWritten
 front c f room o k = at (eqb (step c f room .reply) 0) refl
   where
     p : Outcome
     p = step c f room
 
-    at : (b : Bool) → eqb (p .reply) 0 ≡ b → take (written (p .reply) f) (put o 0 (p .out)) ≡ p .out
+    at : (b : Bool) → eqb (p .reply) 0 ≡ b → take (bytesWritten (p .reply) f) (put o 0 (p .out)) ≡ p .out
     at true e =
         let r : p .reply ≡ 0 = eqb-true (p .reply) 0 e in
-        let n : written (p .reply) f ≡ writtenFor (frameOf f) =
-        ap (λ (m : ℕ). written m f) r ∙ counts c f (passed c (frameOf f) room (sym (reply-is c f room) ∙ r) .shape) in
-        take-at (p .out) (drop (0 + length (p .out)) o) (written (p .reply) f) (writes c f room k r ∙ sym n)
+        let n : bytesWritten (p .reply) f ≡ writtenFor (frameOf f) =
+        ap (λ (m : ℕ). bytesWritten m f) r ∙ counts c f (passed c (frameOf f) room (sym (reply-is c f room) ∙ r) .shape) in
+        take-at (p .out) (drop (0 + length (p .out)) o) (bytesWritten (p .reply) f) (writes c f room k r ∙ sym n)
     at false e = rw e (sym (silent c f room (eqb-false (p .reply) 0 e)))
 
 -- the text of a frame
@@ -90,7 +90,7 @@ unfolding blank
 frame-says s f g k b =
     let p : Outcome = step (view s) f 126 in
     let a : Agrees (stepOf s f blank) p blank = steps s f blank g b in
-    (λ i. hexOf (a .reply i ∷ take (written (a .reply i) f) (a .out i)) ++ (10 ∷ []))
+    (λ i. hexOf (a .reply i ∷ take (bytesWritten (a .reply i) f) (a .out i)) ++ (10 ∷ []))
     ∙ ap (λ (x : List ℕ). benchLine (p .reply, x)) (front (view s) f 126 blank k)
 
 -- ---- frames one after the other

@@ -12,15 +12,15 @@ use borrow.Author.Tests.{eq-eqb, ne-eqb, le-leb}
 use Rattle.wire.specs.Wire.{be16, put}
 use Rattle.hexline.specs.Frames.{framesOf, EachOfBytes, answers}
 use Rattle.hexline.proofs.Frames.{spoken-answers, frames-of-bytes}
-use Rattle.paper.specs.Reader.{Reader, Heard, readerStart, readerStep}
+use Rattle.paper.specs.Reader.{Reader, ReaderOutcome, readerStart, readerStep}
 use Rattle.paper.specs.Runs.{readings}
-use Rattle.shelf.specs.Layout.{readerBytes}
 use Rattle.shelf.specs.View.{readerIn}
 use Rattle.shelf.specs.Range.{Fit}
 use Rattle.shelf.specs.Received.{readOf}
 use Rattle.shelf.specs.Fresh.{startOf, startedOn}
 use Rattle.shelf.specs.Runs.{Agrees}
-use Rattle.shelf.proofs.Ranges.{true-fit}
+use Rattle.shelf.specs.Layout.{readerMark, readerBytes}
+use Rattle.lent.proofs.Fitting.{true-fitting}
 use Rattle.shelf.proofs.Handed.{Listed, handed-listed}
 use Rattle.shelf.proofs.Fresh.{start-view, start-fit}
 use Rattle.shelf.proofs.Steps.{steps}
@@ -40,8 +40,8 @@ pub packet-says : (s f : List ℕ) → Fit s
     → answerTo s f .text ≡ readerLine (readerStep (readerIn s) f 776 .reply, readerStep (readerIn s) f 776 .out)
 unfolding readOf blank
 packet-says s f g =
-    let h : Heard = readerStep (readerIn s) f 776 in
-    rw (true-fit s g) (ap (lineFor (h .reply)) (front f (h .out) blank (h .reply) (handed-listed s f g)))
+    let h : ReaderOutcome = readerStep (readerIn s) f 776 in
+    rw (true-fitting readerBytes readerMark s g) (ap (lineFor (h .reply)) (front f (h .out) blank (h .reply) (handed-listed s f g)))
 
 -- packets one after the other
 packets-say : (fs : List (List ℕ)) (s : List ℕ) → Fit s → EachOfBytes fs

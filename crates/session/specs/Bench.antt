@@ -12,12 +12,12 @@ use Rattle.lent.specs.Told.{Res}
 use Rattle.machine.specs.Called.{stepOf, startOf}
 
 -- "Accepted polls write 126 bytes, status 2, others none"; "No refusal touches the output."
-unfoldable pub written : ℕ → List ℕ → ℕ
-written reply f = cond (eqb reply 0) (cond (eqb (getD f 0 0) 5) 126 (cond (eqb (getD f 0 0) 6) 2 0)) 0
+unfoldable pub bytesWritten : ℕ → List ℕ → ℕ
+bytesWritten reply f = cond (eqb reply 0) (cond (eqb (getD f 0 0) 5) 126 (cond (eqb (getD f 0 0) 6) 2 0)) 0
 
 -- the output bytes that are printed: those that were written
 abbrev pub shownBytes : List ℕ → Res → List ℕ
-shownBytes f o = take (written (o .reply) f) (o .out)
+shownBytes f o = take (bytesWritten (o .reply) f) (o .out)
 
 -- "the reply as two hexadecimal digits and then the output bytes, in capitals", and an LF
 abbrev pub lineFor : List ℕ → Res → List ℕ

@@ -5,7 +5,7 @@ ghost use mathlib.Core.List.{[], _∷_, _++_};
 ghost use Prim.Native.Nat.{_+_, _*_, _≤_, _<_};
 ghost use lib.ListN.{length, take};
 ghost use Rattle.hexline.specs.Hex.{hexOf};
-ghost use Rattle.hexline.specs.Lines.{Buffers, lineOf, frameOf};
+ghost use Rattle.hexline.specs.Lines.{Buffers, lineOf, frameOfLine};
 ghost use Rattle.hexline.specs.Talk.{lastly};
 ghost use Rattle.session.specs.Bench as Bench;
 ghost use Rattle.session.specs.Reader as Reader;
@@ -20,7 +20,7 @@ pub enum Machine {
 // How many bytes a frame that got that reply wrote.
 fn count_of(reply: u8, f: &[u8]) -> usize
     ensures { λ r. ⌜ r ≤ 126 ⌝ }
-    ensures { λ r. ⌜ r ≡ Bench.written reply (now (f .entry)) ⌝ }
+    ensures { λ r. ⌜ r ≡ Bench.bytesWritten reply (now (f .entry)) ⌝ }
 {
     if reply != 0 {
         return 0;
@@ -139,8 +139,8 @@ fn reply(
 ) -> usize
     requires { ⌜ (Buffers n (now line) (now frame)) × (used + mostText ≤ length (now out)) ⌝ }
     ensures { λ r. ⌜ r ≤ length (now (out .entry)) ⌝ }
-    ensures { λ r. ⌜ take r (now (out .exit)) ≡ take used (now (out .entry)) ++ answerTo machine (now (state .entry)) (frameOf (lineOf n (now (line .entry)))) .text ⌝ }
-    ensures { λ _. ⌜ now (state .exit) ≡ answerTo machine (now (state .entry)) (frameOf (lineOf n (now (line .entry)))) .state ⌝ }
+    ensures { λ r. ⌜ take r (now (out .exit)) ≡ take used (now (out .entry)) ++ answerTo machine (now (state .entry)) (frameOfLine (lineOf n (now (line .entry)))) .text ⌝ }
+    ensures { λ _. ⌜ now (state .exit) ≡ answerTo machine (now (state .entry)) (frameOfLine (lineOf n (now (line .entry)))) .state ⌝ }
 {
     let k = hexline::frame_of(line, n, frame);
     answer(machine, &frame[..k], state, out, used)

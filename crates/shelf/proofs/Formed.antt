@@ -11,12 +11,12 @@ use lib.Dec.{eqb}
 use lib.ListN.{length, getD, take, drop}
 use lib.Seq.{take-take}
 use borrow.Author.Tests.{ltb-true, eqb-true}
-use Rattle.wire.specs.Wire.{be16, part, put}
+use Rattle.wire.specs.Wire.{part, put}
 use Rattle.wire.proofs.Runs.{part-put-after}
 use Rattle.paper.specs.Streams.{pieces, listed, carried}
 use Rattle.paper.specs.Packets.{chunks, joined}
 use Rattle.paper.specs.Queue as Queue
-use Rattle.paper.specs.Reader.{Track, fresh, distance, placed, gathers, moves, arrives, arrive, packet, sound, Reader, heard, received, understood}
+use Rattle.paper.specs.Reader.{Track, fresh, distance, placed, gathers, moves, arrives, arrive, packet, sound, Reader, readerOutcome, received, understood}
 use Rattle.lent.specs.Told.{Res, res}
 use Rattle.paper.proofs.Packets.{joined-chunks}
 use Rattle.paper.proofs.Table.{Carried, carried-rules}
@@ -24,7 +24,7 @@ use Rattle.shelf.specs.Layout.{recordAt, placeAt, gatherAt, pieceAt}
 use Rattle.shelf.specs.View.{lastIn, placeIn, runsIn, trackIn, readerIn}
 use Rattle.shelf.specs.Range.{Fit}
 use Rattle.shelf.specs.Received.{recordOf, recordedOn, gathersOn, movesOn, arrivesOn, arrivedOn, understoodOn, toldOf, understoodTo, handsTo}
-use Rattle.shelf.proofs.Ranges.{both}
+use Rattle.lent.proofs.Fitting.{both}
 use Rattle.shelf.proofs.Gathered.{piece-snoc, Elsewhere, body-elsewhere, follows}
 
 -- ---- by the bytes
@@ -91,12 +91,12 @@ module _ (s : List ℕ) (f : Fit s) (t : ℕ) (c : carried t ≡ true) (count : 
       packet = ap joined (sym e) ∙ packet-stands place (omega (arith, eqb-true place (pieces t - 1) l))
 
       q : Reader
-      q = Queue.put (readerIn s) t (record { last = count; place = place; running = false; gathered = [] })
+      q = Queue.replaced (readerIn s) t (record { last = count; place = place; running = false; gathered = [] })
 
       front : take (listed t) p ≡ part y (gatherAt t) (listed t)
       front = take-take (listed t) (118 * pieces t) (drop (gatherAt t) y) (omega (arith, r .fits))
 
-      at : (b : Bool) → toldOf (cond b (heard 1 (take (listed t) p) q) (heard 23 [] q)) o y
+      at : (b : Bool) → toldOf (cond b (readerOutcome 1 (take (listed t) p) q) (readerOutcome 23 [] q)) o y
           ≡ cond b (res 1 (put o 0 (part y (gatherAt t) (listed t))) y) (res 23 o y)
       at true = ap (λ (v : List ℕ). res 1 (put o 0 v) y) front
       at false = refl

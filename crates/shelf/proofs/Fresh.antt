@@ -1,30 +1,26 @@
 -- Fresh bytes hold document 01's fresh reader, and fit.
 -- Assumes nothing.
-use mathlib.Core.Path.{_≡_, refl, sym, ap, _∙_, fun-ext}
+use mathlib.Core.Path.{_≡_, refl, ap, _∙_, fun-ext}
 use mathlib.Core.Bool.{Bool, true, false, cond}
 use mathlib.Core.List.{List}
 use Prim.{Dec, yes, no}
 use Prim.Native.Nat.{ℕ, zero, suc, _+_, _-_, _≤_, _<_}
 use native.Mathlib.Decide.{decLt}
 use native.Mathlib.Omega.{arith}
-use lib.ListN.{length, drop, length-replicate}
+use lib.ListN.{length, drop}
 use borrow.Author.Tests.{ltb-true}
-use Rattle.wire.specs.Wire.{be16, bytes16, put}
-use Rattle.wire.proofs.Runs.{length-put, drop-put, be16-put-same}
 use Rattle.paper.specs.Streams.{pieces, carried}
 use Rattle.paper.specs.Reader.{fresh, readerStart}
 use Rattle.paper.proofs.Table.{Carried, carried-rules}
-use Rattle.lent.proofs.Same.{Same, same-refl, same-trans, be16-same}
-use Rattle.shelf.specs.Layout.{markAt, readerMark, streams, readerBytes}
+use Rattle.lent.specs.Fitting.{markAt, blankOn}
+use Rattle.lent.proofs.Fitting.{fitting-kept, blank-length, blank-mark, blank-rest, drop-rest}
+use Rattle.lent.proofs.Same.{Same, same-refl, same-trans}
+use Rattle.shelf.specs.Layout.{readerMark, streams, readerBytes}
 use Rattle.shelf.specs.View.{trackIn, readerIn}
 use Rattle.shelf.specs.Range.{Fit}
 use Rattle.shelf.specs.Received.{recordedOn}
-use Rattle.shelf.specs.Fresh.{zeros, freshOn, startedOn}
-use Rattle.shelf.proofs.Gathered.{Elsewhere, record-elsewhere, record-track, track-same}
-
-length-zeros : length zeros ≡ readerBytes
-unfolding zeros
-length-zeros = length-replicate {A = ℕ} readerBytes 0
+use Rattle.shelf.specs.Fresh.{freshOn, startedOn}
+use Rattle.shelf.proofs.Gathered.{record-elsewhere, record-track, track-same}
 
 -- ---- fresh records, of the streams below n
 
@@ -72,51 +68,37 @@ module _ (s : List ℕ) (w : readerBytes ≤ length s) where
 -- ---- fresh bytes
 
 module _ (s : List ℕ) (w : readerBytes ≤ length s) where
-  zeros-fit : 0 + length zeros ≤ length s
-  zeros-fit = omega (arith, length-zeros)
+  abbrev blank : List ℕ
+  blank = blankOn readerBytes readerMark s
 
-  blank : length (put s 0 zeros) ≡ length s
-  blank = length-put s 0 zeros zeros-fit
+  blank-long : length blank ≡ length s
+  blank-long = blank-length readerBytes readerMark s (omega arith) w
 
-  mark-fits : markAt + length (bytes16 readerMark) ≤ length (put s 0 zeros)
-  mark-fits = omega (arith, blank)
-
-  abbrev marked : List ℕ
-  marked = put (put s 0 zeros) markAt (bytes16 readerMark)
-
-  marked-length : length marked ≡ length s
-  marked-length = length-put (put s 0 zeros) markAt (bytes16 readerMark) mark-fits ∙ blank
-
-  marked-whole : readerBytes ≤ length marked
-  marked-whole = omega (arith, marked-length)
+  blank-whole : readerBytes ≤ length blank
+  blank-whole = omega (arith, blank-long)
 
   pub start-length : length (startedOn s) ≡ length s
   unfolding startedOn
-  start-length = records marked marked-whole streams (omega arith) .long ∙ marked-length
+  start-length = records blank blank-whole streams (omega arith) .long ∙ blank-long
 
   -- "later bytes staying"
   pub start-past : drop readerBytes (startedOn s) ≡ drop readerBytes s
   unfolding startedOn
   start-past =
-      records marked marked-whole streams (omega arith) .past
-      ∙ drop-put (put s 0 zeros) markAt (bytes16 readerMark) mark-fits readerBytes (omega arith)
-      ∙ drop-put s 0 zeros zeros-fit readerBytes (omega (arith, length-zeros))
+      records blank blank-whole streams (omega arith) .past
+      ∙ drop-rest readerBytes blank s blank-long (blank-rest readerBytes readerMark s (omega arith) w)
 
   pub start-view : readerIn (startedOn s) ≡ readerStart
   unfolding readerIn readerStart startedOn
   start-view = fun-ext (λ t. at t (carried t) refl)
     where
-      at : (t : ℕ) (b : Bool) → carried t ≡ b → cond b (trackIn (freshOn marked streams) t) (fresh (pieces t)) ≡ fresh (pieces t)
-      at t true c = begun marked marked-whole streams t (omega arith) (omega (arith, carried-rules t c .small)) c
+      at : (t : ℕ) (b : Bool) → carried t ≡ b → cond b (trackIn (freshOn blank streams) t) (fresh (pieces t)) ≡ fresh (pieces t)
+      at t true c = begun blank blank-whole streams t (omega arith) (omega (arith, carried-rules t c .small)) c
       at t false c = refl
 
   pub start-fit : Fit (startedOn s)
   unfolding startedOn
   start-fit =
-      let r = records marked marked-whole streams (omega arith) in
-      record {
-        whole = omega (arith, r .long, marked-length);
-        mark =
-            be16-same (r .mark) markAt (omega arith) (omega arith)
-            ∙ be16-put-same (put s 0 zeros) markAt readerMark (omega (arith, mark-fits));
-      }
+      let r = records blank blank-whole streams (omega arith) in
+      fitting-kept (record { whole = blank-whole; mark = blank-mark readerBytes readerMark s (omega arith) w })
+      (omega (arith, r .long, blank-long)) (r .mark)

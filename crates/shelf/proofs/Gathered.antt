@@ -1,11 +1,11 @@
 -- What a store into one stream's places makes of that stream's record, and that it leaves every other stream's record and pieces.
 -- Each law goes over the number of pieces and the stream's number, so that no stream has a case of its own. Assumes nothing.
-use mathlib.Core.Path.{_≡_, refl, sym, ap, _∙_}
+use mathlib.Core.Path.{_≡_, sym, ap, _∙_}
 use mathlib.Core.Bool.{false, cond}
 use mathlib.Core.List.{List, [], _∷_, _++_}
 use mathlib.Core.Logic.{inl, inr}
 use Prim.{Dec, yes, no}
-use Prim.Native.Nat.{ℕ, zero, suc, _+_, _*_, _/_, _%_, _≤_, _<_}
+use Prim.Native.Nat.{ℕ, suc, _+_, _*_, _/_, _%_, _≤_, _<_}
 use native.Mathlib.Decide.{decLt}
 use native.Mathlib.Nat.{add-zero, mod-lt, mod-eq-of-lt, mod-self}
 use native.Mathlib.Numerals.{add-one}
@@ -14,13 +14,14 @@ use lib.Dec.{eqb}
 use lib.ListN.{length, getD, take, drop}
 use lib.Seq.{drop-drop}
 use borrow.Author.Tests.{eqb-false}
-use Rattle.wire.specs.Wire.{be16, put}
+use Rattle.wire.specs.Wire.{put}
 use Rattle.wire.proofs.Runs.{length-put, drop-put, getD-put-inside, part-put-same}
 use Rattle.paper.specs.Streams.{pieces}
 use Rattle.paper.specs.Packets.{chunks}
 use Rattle.paper.specs.Reader.{placed}
+use Rattle.lent.specs.Fitting.{markAt}
 use Rattle.lent.proofs.Same.{Same, same-trans, Outside, put-same, be16-same, chunks-same, chunks-snoc}
-use Rattle.shelf.specs.Layout.{markAt, streams, recordAt, placeAt, runsAt, gatherAt, pieceAt, readerBytes}
+use Rattle.shelf.specs.Layout.{streams, recordAt, placeAt, runsAt, gatherAt, pieceAt, readerBytes}
 use Rattle.shelf.specs.View.{lastIn, placeIn, trackIn}
 use Rattle.shelf.specs.Received.{recordOf, recordedOn}
 

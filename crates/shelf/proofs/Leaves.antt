@@ -1,7 +1,7 @@
 -- What a call of the reader leaves: bytes past the reader's as they were, bytes of the output past what is handed out as they were,
 -- and with reply 23 a record that moved on and no gathering.
 -- Assumes nothing.
-use mathlib.Core.Path.{_≡_, refl, sym, _∙_}
+use mathlib.Core.Path.{_≡_, refl, _∙_}
 use mathlib.Core.Bool.{Bool, true, false, cond, _&&_}
 use mathlib.Core.List.{List, []}
 use mathlib.Core.Logic.{inl, inr}
@@ -9,21 +9,21 @@ use Prim.Native.Nat.{ℕ, _+_, _-_, _/_, _%_, _≤_, _<_}
 use native.Mathlib.Nat.{mod-lt}
 use native.Mathlib.Omega.{arith}
 use lib.Dec.{eqb, ltb}
-use lib.ListN.{length, getD, take, drop}
+use lib.ListN.{length, take, drop}
 use borrow.Author.Tests.{ltb-true, ltb-false, eqb-false}
 use Rattle.wire.specs.Wire.{be16, put, Bytes}
 use Rattle.wire.proofs.Runs.{drop-put}
 use Rattle.paper.specs.Streams.{pieces, listed, carried}
 use Rattle.paper.specs.Packets.{joined}
 use Rattle.paper.specs.Queue as Queue
-use Rattle.paper.specs.Reader.{Track, distance, placed, gathers, moves, arrives, arrive, Packet, packet, notCarried, noPacket, wellFormed, packetOf, sound, Reader, Heard, heard, received, understood, readerStep}
+use Rattle.paper.specs.Reader.{Track, distance, placed, gathers, moves, arrives, arrive, Packet, packet, notCarried, noPacket, wellFormed, packetOf, sound, Reader, ReaderOutcome, readerOutcome, received, understood, readerStep}
 use Rattle.paper.proofs.Table.{Carried, carried-rules}
 use Rattle.lent.specs.Told.{res}
-use Rattle.shelf.specs.Layout.{pieceAt, readerBytes}
+use Rattle.shelf.specs.Layout.{readerMark, pieceAt, readerBytes}
 use Rattle.shelf.specs.View.{lastIn, placeIn, runsIn, readerIn}
 use Rattle.shelf.specs.Range.{fit}
 use Rattle.shelf.specs.Received.{gathersOn, movesOn, arrivesOn, arrivedOn, understoodOn, receivedOn, toldOf, readOf}
-use Rattle.shelf.proofs.Ranges.{fit-true}
+use Rattle.lent.proofs.Fitting.{fitting-true}
 use Rattle.shelf.proofs.Gathered.{Elsewhere, record-elsewhere, body-elsewhere}
 use Rattle.shelf.proofs.Packets.{Shaped, shaped, Any}
 use Rattle.shelf.proofs.Refusals.{listed-most}
@@ -76,12 +76,12 @@ later-bytes s f o = at (fit s) refl (ltb (length o) 776)
         (cond b (toldOf (readerStep (readerIn s) f (length o)) o (cond w s (understoodOn s (packetOf f)))) (res 25 o s) .state)
         ≡ drop readerBytes s
     at true e true = refl
-    at true e false = understood-past s (fit-true s e .whole) (packetOf f) (shaped Any f tt)
+    at true e false = understood-past s (fitting-true readerBytes readerMark s e .whole) (packetOf f) (shaped Any f tt)
     at false e w = refl
 
 -- ---- "bytes past what is handed out stay"
 
-fronted : (h : Heard) (o : List ℕ) (t : ℕ) → Listed t (h .reply) (h .out) → h .reply ≡ 1 → listed t ≤ length o
+fronted : (h : ReaderOutcome) (o : List ℕ) (t : ℕ) → Listed t (h .reply) (h .out) → h .reply ≡ 1 → listed t ≤ length o
     → drop (listed t) (put o 0 (h .out)) ≡ drop (listed t) o
 fronted h o t (inl l) e fits = drop-put o 0 (h .out) (omega (arith, l .1)) (listed t) (omega (arith, l .1))
 fronted h o t (inr l) e fits = absurd (l .0 e)
@@ -94,15 +94,15 @@ output-past s f o = at (fit s) refl (ltb (length o) 776) refl
     t : ℕ
     t = be16 f 6 % 16
 
-    h : Bool → Heard
-    h w = cond w (heard 24 [] (readerIn s)) (understood (readerIn s) (packetOf f))
+    h : Bool → ReaderOutcome
+    h w = cond w (readerOutcome 24 [] (readerIn s)) (understood (readerIn s) (packetOf f))
 
     at : (b : Bool) → fit s ≡ b → (w : Bool) → ltb (length o) 776 ≡ w
         → cond b (toldOf (h w) o (receivedOn s f (length o))) (res 25 o s) .reply ≡ 1
         → drop (listed t) (cond b (toldOf (h w) o (receivedOn s f (length o))) (res 25 o s) .out) ≡ drop (listed t) o
     at true e true l n = refl
     at true e false l n =
-        fronted (understood (readerIn s) (packetOf f)) o t (handed-listed s f (fit-true s e)) n
+        fronted (understood (readerIn s) (packetOf f)) o t (handed-listed s f (fitting-true readerBytes readerMark s e)) n
         (omega (arith, ltb-false (length o) 776 l, listed-most t))
     at false e w l n = refl
 
@@ -110,7 +110,7 @@ output-past s f o = at (fit s) refl (ltb (length o) 776) refl
 
 -- the reader with the record of stream t at a count and a place, and no gathering
 abbrev moved : Reader → ℕ → ℕ → ℕ → Reader
-moved r t count place = Queue.put r t (record { last = count; place = place; running = false; gathered = [] })
+moved r t count place = Queue.replaced r t (record { last = count; place = place; running = false; gathered = [] })
 
 module _ (r : Reader) (t count : ℕ) (x : List ℕ) where
   gathers-wrong : (atLast : Bool) (place : ℕ) (g : List (List ℕ)) → received r t (gathers atLast count place g) .reply ≡ 23
@@ -119,7 +119,7 @@ module _ (r : Reader) (t count : ℕ) (x : List ℕ) where
   gathers-wrong true place g e = at (sound t (joined g))
     where
       at : (b : Bool)
-          → cond b (heard 1 (take (listed t) (joined g)) (moved r t count place)) (heard 23 [] (moved r t count place)) .next
+          → cond b (readerOutcome 1 (take (listed t) (joined g)) (moved r t count place)) (readerOutcome 23 [] (moved r t count place)) .next
           ≡ moved r t count place
       at true = refl
       at false = refl
@@ -159,8 +159,8 @@ wrong r f room = at (ltb room 776) (wellFormed f) (carried (be16 f 6 % 16))
     d = distance (r t .last) count
 
     at : (w v c : Bool)
-        → cond w (heard 24 [] r) (understood r (cond v (cond c (packet t count (drop 8 f)) notCarried) noPacket)) .reply ≡ 23
-        → cond w (heard 24 [] r) (understood r (cond v (cond c (packet t count (drop 8 f)) notCarried) noPacket)) .next
+        → cond w (readerOutcome 24 [] r) (understood r (cond v (cond c (packet t count (drop 8 f)) notCarried) noPacket)) .reply ≡ 23
+        → cond w (readerOutcome 24 [] r) (understood r (cond v (cond c (packet t count (drop 8 f)) notCarried) noPacket)) .next
         ≡ moved r t count (placed (pieces t) (r t .place) d)
     at true v c e = absurd (eqb-false 24 23 refl e)
     at false true true e = arrives-wrong r t count (drop 8 f) (eqb d 0) (pieces t) (r t) d e
@@ -180,5 +180,5 @@ moved-on s f o b = at (fit s) refl
         → readerIn (cond x (toldOf (readerStep (readerIn s) f (length o)) o (receivedOn s f (length o))) (res 25 o s) .state)
         ≡ moved (readerIn s) (be16 f 6 % 16) (be16 f 6 / 16)
         (placed (pieces (be16 f 6 % 16)) (readerIn s (be16 f 6 % 16) .place) (distance (readerIn s (be16 f 6 % 16) .last) (be16 f 6 / 16)))
-    at true e n = received-left s f (length o) (fit-true s e) b .held ∙ wrong (readerIn s) f (length o) n
+    at true e n = received-left s f (length o) (fitting-true readerBytes readerMark s e) b .held ∙ wrong (readerIn s) f (length o) n
     at false e n = absurd (eqb-false 25 23 refl n)

@@ -9,12 +9,12 @@ use native.Mathlib.Omega.{arith}
 use lib.Dec.{eqb, ltb, leb, leb→le}
 use lib.ListN.{length, take, length-take}
 use borrow.Author.Tests.{ltb-false}
-use Rattle.wire.specs.Wire.{be16, put}
+use Rattle.wire.specs.Wire.{put}
 use Rattle.wire.proofs.Runs.{length-put}
 use Rattle.paper.specs.Streams.{pieces, listed, carried}
 use Rattle.paper.specs.Packets.{joined}
 use Rattle.paper.specs.Queue as Queue
-use Rattle.paper.specs.Reader.{Track, fresh, distance, placed, Arrival, repeated, taken, finished, gathers, moves, arrives, arrive, Packet, packet, notCarried, noPacket, packetOf, sound, Reader, Heard, heard, received, understood, readerStep}
+use Rattle.paper.specs.Reader.{Track, fresh, distance, placed, ArrivalEffect, repeated, taken, finished, gathers, moves, arrives, arrive, Packet, packet, notCarried, noPacket, packetOf, sound, Reader, ReaderOutcome, readerOutcome, received, understood, readerStep}
 use Rattle.lent.specs.Told.{Res, res}
 use Rattle.paper.proofs.Table.{rule}
 use Rattle.shelf.specs.View.{lastIn, trackIn, readerIn}
@@ -35,7 +35,7 @@ abbrev pub Moved : ℕ → Type 0
 Moved n = (n ≡ 0) ⊎ ((n ≡ 1) ⊎ (n ≡ 23))
 
 module _ (r : Reader) (t : ℕ) where
-  handed : (b : Bool) (o : List ℕ) (q : Reader) → Moved (cond b (heard 1 o q) (heard 23 [] q) .reply)
+  handed : (b : Bool) (o : List ℕ) (q : Reader) → Moved (cond b (readerOutcome 1 o q) (readerOutcome 23 [] q) .reply)
   handed true o q = inr (inl refl)
   handed false o q = inr (inr refl)
 
@@ -89,8 +89,8 @@ kept s f o = at (fit s) (ltb (length o) 776)
   where
     at : (b w : Bool)
         → Kept
-        (cond b (toldOf (cond w (heard 24 [] (readerIn s)) (understood (readerIn s) (packetOf f))) o (cond w s (understoodOn s (packetOf f)))) (res 25 o s) .reply)
-        (cond b (toldOf (cond w (heard 24 [] (readerIn s)) (understood (readerIn s) (packetOf f))) o (cond w s (understoodOn s (packetOf f)))) (res 25 o s) .state)
+        (cond b (toldOf (cond w (readerOutcome 24 [] (readerIn s)) (understood (readerIn s) (packetOf f))) o (cond w s (understoodOn s (packetOf f)))) (res 25 o s) .reply)
+        (cond b (toldOf (cond w (readerOutcome 24 [] (readerIn s)) (understood (readerIn s) (packetOf f))) o (cond w s (understoodOn s (packetOf f)))) (res 25 o s) .state)
         s
     at true true = inl refl
     at true false = understood-kept s (packetOf f) (shaped Any f tt)
@@ -99,19 +99,19 @@ kept s f o = at (fit s) (ltb (length o) 776)
 -- ---- "no refusal writes output, and bytes past what is handed out stay"
 
 -- what is written, under a reply: nothing, unless it is handed out, and at most 776 bytes
-abbrev Written : Heard → Type 0
+abbrev Written : ReaderOutcome → Type 0
 Written h = (h .out ≡ []) ⊎ ((h .reply ≡ 1) × (length (h .out) ≤ 776))
 
 pub listed-most : (t : ℕ) → listed t ≤ 776
 listed-most t = leb→le _ _ (rule (λ r. true) (λ r. leb (r .listed) 776) tt (λ k. tt) t refl)
 
-received-written : (r : Reader) (t : ℕ) (a : Arrival (List ℕ)) → Written (received r t a)
+received-written : (r : Reader) (t : ℕ) (a : ArrivalEffect (List ℕ)) → Written (received r t a)
 unfolding received
 received-written r t repeated = inl refl
 received-written r t (taken q) = inl refl
 received-written r t (finished q g) = at (sound t (joined g))
   where
-    at : (b : Bool) → Written (cond b (heard 1 (take (listed t) (joined g)) (Queue.put r t q)) (heard 23 [] (Queue.put r t q)))
+    at : (b : Bool) → Written (cond b (readerOutcome 1 (take (listed t) (joined g)) (Queue.replaced r t q)) (readerOutcome 23 [] (Queue.replaced r t q)))
     at true = inr (refl, omega (arith, length-take (listed t) (joined g), listed-most t))
     at false = inl refl
 
@@ -127,7 +127,7 @@ pub record Output (r : Res) (o : List ℕ) : Type 0 where
   pub long : length (r .out) ≡ length o
 
 -- what is written at an output's front
-fronted : (h : Heard) (o s : List ℕ) → Written h → (h .reply ≡ 1 → 776 ≤ length o) → Output (toldOf h o s) o
+fronted : (h : ReaderOutcome) (o s : List ℕ) → Written h → (h .reply ≡ 1 → 776 ≤ length o) → Output (toldOf h o s) o
 fronted h o s (inl e) w =
     let same : put o 0 (h .out) ≡ o = ap (put o 0) e in
     record { stays = inl same; long = ap length same }
@@ -140,7 +140,7 @@ output s f o = at (fit s) (ltb (length o) 776) refl
   where
     at : (b w : Bool) → ltb (length o) 776 ≡ w
         → Output
-        (cond b (toldOf (cond w (heard 24 [] (readerIn s)) (understood (readerIn s) (packetOf f))) o (receivedOn s f (length o))) (res 25 o s)) o
+        (cond b (toldOf (cond w (readerOutcome 24 [] (readerIn s)) (understood (readerIn s) (packetOf f))) o (receivedOn s f (length o))) (res 25 o s)) o
     at true true e = record { stays = inl refl; long = refl }
     at true false e =
         fronted (understood (readerIn s) (packetOf f)) o (receivedOn s f (length o)) (understood-written (readerIn s) (packetOf f))

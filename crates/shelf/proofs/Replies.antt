@@ -10,7 +10,7 @@ use Rattle.wire.specs.Wire.{be16}
 use Rattle.paper.specs.Streams.{pieces, listed, carried}
 use Rattle.paper.specs.Packets.{joined}
 use Rattle.paper.specs.Queue as Queue
-use Rattle.paper.specs.Reader.{Arrival, repeated, taken, finished, arrive, Packet, packet, notCarried, noPacket, wellFormed, packetOf, sound, Reader, heard, received, understood, readerStep}
+use Rattle.paper.specs.Reader.{ArrivalEffect, repeated, taken, finished, arrive, Packet, packet, notCarried, noPacket, wellFormed, packetOf, sound, Reader, readerOutcome, received, understood, readerStep}
 use Rattle.lent.specs.Told.{res}
 use Rattle.shelf.specs.View.{readerIn}
 use Rattle.shelf.specs.Range.{fit}
@@ -22,13 +22,13 @@ pub record Told (n : ℕ) (f : List ℕ) : Type 0 where
   pub small : n ≤ 25
   pub whole : n ≡ 1 → length f ≡ 126
 
-received-small : (r : Reader) (t : ℕ) (a : Arrival (List ℕ)) → received r t a .reply ≤ 25
+received-small : (r : Reader) (t : ℕ) (a : ArrivalEffect (List ℕ)) → received r t a .reply ≤ 25
 unfolding received
 received-small r t repeated = omega arith
 received-small r t (taken q) = omega arith
 received-small r t (finished q g) = at (sound t (joined g))
   where
-    at : (b : Bool) → cond b (heard 1 (take (listed t) (joined g)) (Queue.put r t q)) (heard 23 [] (Queue.put r t q)) .reply ≤ 25
+    at : (b : Bool) → cond b (readerOutcome 1 (take (listed t) (joined g)) (Queue.replaced r t q)) (readerOutcome 23 [] (Queue.replaced r t q)) .reply ≤ 25
     at true = omega arith
     at false = omega arith
 
@@ -62,7 +62,7 @@ replies s f o = at (fit s) (ltb (length o) 776)
 
     at : (b w : Bool)
         → Told
-        (cond b (toldOf (cond w (heard 24 [] (readerIn s)) (understood (readerIn s) (packetOf f))) o (receivedOn s f (length o))) (res 25 o s) .reply)
+        (cond b (toldOf (cond w (readerOutcome 24 [] (readerIn s)) (understood (readerIn s) (packetOf f))) o (receivedOn s f (length o))) (res 25 o s) .reply)
         f
     at true true = refusal 24 (omega arith) (omega arith)
     at true false = understood-told (readerIn s) f

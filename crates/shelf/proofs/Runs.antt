@@ -9,13 +9,13 @@ use Rattle.paper.specs.Reader.{Reader, readerStart, readerStep}
 use Rattle.paper.specs.Runs.{reads, readings}
 use Rattle.wire.specs.Wire.{Bytes}
 use Rattle.lent.specs.Calls.{Framed, calls, fronts}
-use Rattle.shelf.specs.Layout.{readerBytes}
+use Rattle.shelf.specs.Layout.{readerMark, readerBytes}
 use Rattle.shelf.specs.View.{readerIn}
 use Rattle.shelf.specs.Range.{Fit, fit}
 use Rattle.shelf.specs.Received.{readOf}
 use Rattle.shelf.specs.Fresh.{startedOn}
 use Rattle.shelf.specs.Runs.{Left, Agrees, readsOf, readingsOf}
-use Rattle.shelf.proofs.Ranges.{true-fit}
+use Rattle.lent.proofs.Fitting.{true-fitting}
 use Rattle.shelf.proofs.Fresh.{start-view, start-fit, start-length, start-past}
 use Rattle.shelf.proofs.Steps.{steps}
 
@@ -64,7 +64,7 @@ module _ (s : List ℕ) (whole : readerBytes ≤ length s) (xs : List (List ℕ 
       ∙ ap (λ (r : Reader). fronts xs (readings r (calls xs))) (start-view s whole)
 
   pub never-25 : fit (readsOf (startedOn s) xs) ≡ true
-  never-25 = true-fit (readsOf (startedOn s) xs) (started-runs .fits)
+  never-25 = true-fitting readerBytes readerMark (readsOf (startedOn s) xs) (started-runs .fits)
 
   pub started-steps : (f o : List ℕ) → Bytes f
       → Agrees (readOf (readsOf (startedOn s) xs) f o) (readerStep (reads readerStart (calls xs)) f (length o)) o

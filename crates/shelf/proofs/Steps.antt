@@ -9,19 +9,20 @@ use native.Mathlib.Omega.{arith}
 use lib.Dec.{eqb, ltb}
 use lib.ListN.{length, getD, drop}
 use borrow.Author.Tests.{ltb-true, eqb-true, eqb-false}
-use Rattle.wire.specs.Wire.{be16, put, Bytes}
+use Rattle.wire.specs.Wire.{put, Bytes}
 use Rattle.paper.specs.Streams.{pieces, carried}
 use Rattle.paper.specs.Packets.{chunks, joined}
 use Rattle.paper.specs.Queue as Queue
-use Rattle.paper.specs.Reader.{Track, fresh, distance, placed, gathers, moves, arrives, arrive, Packet, packet, notCarried, noPacket, packetOf, sound, Reader, Heard, heard, received, understood, readerStep}
+use Rattle.paper.specs.Reader.{Track, fresh, distance, placed, gathers, moves, arrives, arrive, Packet, packet, notCarried, noPacket, packetOf, sound, Reader, readerOutcome, received, understood, readerStep}
 use Rattle.lent.proofs.Same.{be16-same}
 use Rattle.paper.proofs.Table.{Carried, carried-rules}
-use Rattle.shelf.specs.Layout.{markAt, placeAt, gatherAt, pieceAt, readerBytes}
+use Rattle.shelf.specs.Layout.{readerMark, placeAt, gatherAt, pieceAt, readerBytes}
 use Rattle.shelf.specs.View.{lastIn, placeIn, runsIn, trackIn, readerIn}
 use Rattle.shelf.specs.Range.{Fit}
 use Rattle.shelf.specs.Received.{recordedOn, gathersOn, movesOn, arrivesOn, arrivedOn, understoodOn, receivedOn, readOf}
 use Rattle.shelf.specs.Runs.{Left, Agrees}
-use Rattle.shelf.proofs.Ranges.{both, true-fit}
+use Rattle.lent.specs.Fitting.{markAt}
+use Rattle.lent.proofs.Fitting.{both, true-fitting}
 use Rattle.shelf.proofs.Packets.{Shaped, shaped}
 use Rattle.shelf.proofs.Gathered.{piece-snoc, Elsewhere, elsewhere-trans, record-elsewhere, body-elsewhere, record-track, track-same, follows}
 
@@ -32,8 +33,8 @@ untouched s f = record { held = refl; fits = f; long = refl; past = refl }
 -- ---- one stream's record anew
 
 module _ (s : List ℕ) (f : Fit s) (t : ℕ) (c : carried t ≡ true) where
-  left : (x : List ℕ) (k : Track (List ℕ)) → Elsewhere x s t → trackIn x t ≡ k → Left x s (Queue.put (readerIn s) t k)
-  unfolding readerIn Queue.put
+  left : (x : List ℕ) (k : Track (List ℕ)) → Elsewhere x s t → trackIn x t ≡ k → Left x s (Queue.replaced (readerIn s) t k)
+  unfolding readerIn Queue.replaced
   left x k e h =
       record {
         held = fun-ext (λ u. at u (eqb t u) refl (carried u) refl);
@@ -71,13 +72,13 @@ module _ (s : List ℕ) (f : Fit s) (t : ℕ) (c : carried t ≡ true) where
     -- "otherwise it is dropped"
     dropped-left : (place : ℕ) → place < pieces t
         → Left (recordedOn s t count place 0) s
-        (Queue.put (readerIn s) t (record { last = count; place = place; running = false; gathered = [] }))
+        (Queue.replaced (readerIn s) t (record { last = count; place = place; running = false; gathered = [] }))
     dropped-left place h =
         left (recordedOn s t count place 0) _ (record-elsewhere s whole t (r .small) count place 0)
         (record-track s whole t (r .small) count place 0 small h (r .few))
 
     -- what handing out or refusing to leaves
-    handed : (b : Bool) (o : List ℕ) (q : Reader) → cond b (heard 1 o q) (heard 23 [] q) .next ≡ q
+    handed : (b : Bool) (o : List ℕ) (q : Reader) → cond b (readerOutcome 1 o q) (readerOutcome 23 [] q) .next ≡ q
     handed true o q = refl
     handed false o q = refl
 
@@ -176,7 +177,7 @@ unfolding receivedOn readerStep
 received-left s f room g b = at (ltb room 776)
   where
     at : (w : Bool) → Left (cond w s (understoodOn s (packetOf f))) s
-        (cond w (heard 24 [] (readerIn s)) (understood (readerIn s) (packetOf f)) .next)
+        (cond w (readerOutcome 24 [] (readerIn s)) (understood (readerIn s) (packetOf f)) .next)
     at true = untouched s g
     at false = understood-left s g (packetOf f) (shaped Counts f (omega (arith, b 6, b 7)))
 
@@ -185,7 +186,7 @@ pub steps : (s f o : List ℕ) → Fit s → Bytes f → Agrees (readOf s f o) (
 unfolding readOf
 steps s f o g b =
     let l = received-left s f (length o) g b in
-    rw (true-fit s g)
+    rw (true-fitting readerBytes readerMark s g)
     (record { reply = refl; out = refl; held = l .held; fits = l .fits; long = l .long; past = l .past })
 
 pub received-view : (s f o : List ℕ) → Fit s → Bytes f → readerIn (readOf s f o .state) ≡ readerStep (readerIn s) f (length o) .next

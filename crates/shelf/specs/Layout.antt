@@ -3,10 +3,7 @@
 -- Assumes nothing.
 use Prim.Native.Nat.{ℕ, _+_, _*_}
 
--- the mark: the letters SR
-abbrev pub markAt : ℕ
-markAt = 0
-
+-- the mark in front, two bytes: the letters SR
 abbrev pub readerMark : ℕ
 readerMark = 0x5352
 

@@ -8,7 +8,7 @@ use lib.Dec.{eqb, ltb}
 use lib.ListN.{length}
 use Rattle.wire.specs.Wire.{part, put}
 use Rattle.paper.specs.Streams.{pieces, listed}
-use Rattle.paper.specs.Reader.{distance, placed, Packet, packet, notCarried, noPacket, packetOf, sound, Heard, understood, readerStep}
+use Rattle.paper.specs.Reader.{distance, placed, Packet, packet, notCarried, noPacket, packetOf, sound, ReaderOutcome, understood, readerStep}
 use Rattle.lent.specs.Told.{Res, res}
 use Rattle.shelf.specs.Layout.{recordAt, gatherAt, pieceAt}
 use Rattle.shelf.specs.View.{lastIn, placeIn, runsIn, readerIn}
@@ -52,7 +52,7 @@ understoodOn s noPacket = s
 unfoldable pub receivedOn : List ℕ → List ℕ → ℕ → List ℕ
 receivedOn s f room = cond (ltb room 776) s (understoodOn s (packetOf f))
 
-abbrev pub toldOf : Heard → List ℕ → List ℕ → Res
+abbrev pub toldOf : ReaderOutcome → List ℕ → List ℕ → Res
 toldOf h o s = res (h .reply) (put o 0 (h .out)) s
 
 -- what a packet comes to, where there is room

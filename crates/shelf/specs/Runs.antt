@@ -5,7 +5,7 @@ use mathlib.Core.List.{List, [], _∷_}
 use Prim.Native.Nat.{ℕ}
 use lib.ListN.{length, drop}
 use Rattle.wire.specs.Wire.{put}
-use Rattle.paper.specs.Reader.{Reader, Heard}
+use Rattle.paper.specs.Reader.{Reader, ReaderOutcome}
 use Rattle.lent.specs.Told.{Res}
 use Rattle.shelf.specs.Layout.{readerBytes}
 use Rattle.shelf.specs.View.{readerIn}
@@ -22,7 +22,7 @@ pub record Left (x s : List ℕ) (r : Reader) : Type 0 where
 
 -- What a call on bytes s came to, and what document 01's reader told, with the output o that was lent: the same reply; its bytes
 -- at the output's front, the rest as it was; bytes that hold the reader that is left, and fit; bytes past the reader's as they were.
-pub record Agrees (r : Res) (p : Heard) (o s : List ℕ) : Type 0 where
+pub record Agrees (r : Res) (p : ReaderOutcome) (o s : List ℕ) : Type 0 where
   pub reply : r .reply ≡ p .reply
   pub out : r .out ≡ put o 0 (p .out)
   pub held : readerIn (r .state) ≡ p .next

@@ -4,8 +4,6 @@ ghost use mathlib.Core.Path.{_≡_};
 ghost use Prim.Native.Nat.{_+_, _<_, _≤_};
 ghost use Rattle.shelf.specs.Layout.{recordAt, gatherAt, readerBytes};
 
-pub const MARK_AT: usize = 0;
-
 pub const MARK: u16 = 0x5352;
 
 pub const BYTES: usize = 9962;

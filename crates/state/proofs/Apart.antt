@@ -1,8 +1,8 @@
 -- What a store elsewhere leaves of the controller that lent bytes hold: each part of it depends on its own bytes alone.
 -- `..-same` says it of two lists that agree there, `..-apart` of a run that is stored before or after. Assumes nothing.
-use mathlib.Core.Path.{_≡_, refl, sym, ap, _∙_, subst, fun-ext}
+use mathlib.Core.Path.{_≡_, refl, sym, ap, _∙_, fun-ext}
 use mathlib.Core.Bool.{Bool, true, false, cond}
-use mathlib.Core.List.{List, map}
+use mathlib.Core.List.{List}
 use mathlib.Core.Logic.{_⊎_, inl, inr, ⊎-elim}
 use Prim.{Dec, yes, no}
 use Prim.Native.Nat.{ℕ, zero, suc, _+_, _-_, _*_, _/_, _%_, _≤_, _<_}
@@ -16,43 +16,44 @@ use Rattle.wire.specs.Wire.{be16, part, put}
 use Rattle.wire.proofs.Runs.{length-put}
 use Rattle.impact.specs.Window.{windowOf}
 use Rattle.impact.proofs.Packing.{wordsOf-same}
+use Rattle.paper.specs.Frames.{cdmuA, cdmuB}
 use Rattle.paper.specs.Mode.{modeOf}
 use Rattle.paper.specs.Streams.{perPacket, width, form}
 use Rattle.paper.specs.Queue.{piece}
 use Rattle.paper.specs.Controller.{nothingOpen, withStreams}
 use Rattle.paper.proofs.Table.{several-rules}
-use Rattle.lent.proofs.Same.{Same, same-sym, same-within, Outside, put-same, be16-same, be24-same, part-same, chunks-same}
-use Rattle.state.specs.Layout.{flagAt, impactTimeAt, impactModeAt, windowAt, placeAt, furtherAt, firstAt, waitingAt, housedAt, streams, countAt, openAt, samplesAt, ringAt, slotsAt, slotAt, stateBytes}
-use Rattle.state.specs.View.{clockIn, standingIn, collectionOf, ringFrom, impactIn, talliesIn, twelve, kept, samplesIn, openOf, heldIn, openIn, countIn, pieceIn, piecesIn, streamsIn, view}
-use Rattle.state.specs.Range.{Fit}
+use Rattle.lent.proofs.Same.{Same, same-within, Outside, put-same, be16-same, be24-same, part-same, chunks-same}
+use Rattle.state.specs.Layout.{flagAt, impactTimeAt, impactModeAt, windowAt, oldestAt, furtherAt, firstAt, waitingAt, housedAt, streams, countAt, openAt, samplesAt, ringAt, slotsAt, slotAt, stateBytes, timeAt, altitudeAt, spinAt, phaseAt, mAt, nibbleAt, entryTimeAt, oldAt, entryAltitudeAt, referenceAt, commandsAt, broadcastsAt, packetsAt, telemetryAt, errorsAt, codeAt, sequenceAt, idAt, staysOpen}
+use Rattle.state.specs.View.{clockIn, standingIn, collectionOf, ringFrom, impactIn, talliesIn, byForm, samplesIn, openOf, heldIn, openIn, countIn, pieceIn, piecesIn, streamsIn, view, capped, oldestIn, firstIn, waitingIn}
+use Rattle.state.specs.Range.{Whole}
 
 -- ---- each part depends on its own bytes
 
 module _ (x y : List ℕ) where
-  pub clock-same : Same x y 0 8 → clockIn x ≡ clockIn y
+  pub clock-same : Same x y timeAt nibbleAt → clockIn x ≡ clockIn y
   unfolding clockIn
   clock-same p i =
       record {
-        time = be16-same p 0 (omega arith) (omega arith) i;
-        altitude = be16-same p 2 (omega arith) (omega arith) i;
-        spin = p .byte 4 (omega arith) (omega arith) i;
-        phase = p .byte 5 (omega arith) (omega arith) i;
-        m = be16-same p 6 (omega arith) (omega arith) i;
+        time = be16-same p timeAt (omega arith) (omega arith) i;
+        altitude = be16-same p altitudeAt (omega arith) (omega arith) i;
+        spin = p .byte spinAt (omega arith) (omega arith) i;
+        phase = p .byte phaseAt (omega arith) (omega arith) i;
+        m = capped 1023 (be16-same p mAt (omega arith) (omega arith) i);
       }
 
-  pub standing-same : Same x y 8 17 → standingIn x ≡ standingIn y
+  pub standing-same : Same x y nibbleAt flagAt → standingIn x ≡ standingIn y
   unfolding standingIn
   standing-same p i =
       record {
-        mode = modeOf (p .byte 8 (omega arith) (omega arith) i % 8);
-        locked = leb 8 (p .byte 8 (omega arith) (omega arith) i);
+        mode = modeOf (p .byte nibbleAt (omega arith) (omega arith) i % 16 % 8);
+        locked = leb 8 (p .byte nibbleAt (omega arith) (omega arith) i % 16);
         entry =
             record {
-              time = be24-same p 9 (omega arith) (omega arith) i;
-              altitude = be16-same p 13 (omega arith) (omega arith) i;
-              old = p .byte 12 (omega arith) (omega arith) i;
+              time = be24-same p entryTimeAt (omega arith) (omega arith) i;
+              altitude = be16-same p entryAltitudeAt (omega arith) (omega arith) i;
+              old = p .byte oldAt (omega arith) (omega arith) i;
             };
-        reference = be16-same p 15 (omega arith) (omega arith) i;
+        reference = be16-same p referenceAt (omega arith) (omega arith) i;
       }
 
   -- the ring from a place in it
@@ -64,12 +65,12 @@ module _ (x y : List ℕ) where
       let older = wordsOf-same x ringAt y ringAt place (λ j b. p .byte (ringAt + j) (omega arith) (omega arith)) in
       rw (newer, older)
 
-  pub impact-same : be16 x placeAt ≤ 512 → Same x y 17 27 → Same x y ringAt slotsAt → impactIn x ≡ impactIn y
+  pub impact-same : Same x y flagAt commandsAt → Same x y ringAt slotsAt → impactIn x ≡ impactIn y
   unfolding impactIn
-  impact-same h p r =
-      let place = be16-same p placeAt (omega arith) (omega arith) in
-      let ring : ringFrom x (be16 x placeAt) ≡ ringFrom y (be16 y placeAt) =
-      ring-same (be16 x placeAt) h r ∙ ap (ringFrom y) place in
+  impact-same p r =
+      let place = be16-same p oldestAt (omega arith) (omega arith) in
+      let ring : ringFrom x (oldestIn x) ≡ ringFrom y (oldestIn y) =
+      ring-same (oldestIn x) (omega arith) r ∙ ap (λ (n : ℕ). ringFrom y (n % 512)) place in
       λ i.
       record {
         flag = eqb (p .byte flagAt (omega arith) (omega arith) i) 1;
@@ -78,25 +79,25 @@ module _ (x y : List ℕ) where
               time = be24-same p impactTimeAt (omega arith) (omega arith) i;
               mode = p .byte impactModeAt (omega arith) (omega arith) i;
             };
-        window = windowOf (p .byte windowAt (omega arith) (omega arith) i);
+        window = windowOf (p .byte windowAt (omega arith) (omega arith) i % 32);
         ring = ring i;
-        collection = collectionOf (be16-same p furtherAt (omega arith) (omega arith) i);
+        collection = collectionOf (capped 448 (be16-same p furtherAt (omega arith) (omega arith) i));
       }
 
-  pub tallies-same : Same x y 27 45 → talliesIn x ≡ talliesIn y
+  pub tallies-same : Same x y commandsAt firstAt → talliesIn x ≡ talliesIn y
   unfolding talliesIn
   tallies-same p i =
       record {
         broadcasts =
-            record { a = be16-same p 29 (omega arith) (omega arith) i; b = be16-same p 31 (omega arith) (omega arith) i };
-        packets = record { a = be16-same p 33 (omega arith) (omega arith) i; b = be16-same p 35 (omega arith) (omega arith) i };
+            record { a = be16-same p (broadcastsAt cdmuA) (omega arith) (omega arith) i; b = be16-same p (broadcastsAt cdmuB) (omega arith) (omega arith) i };
+        packets = record { a = be16-same p (packetsAt cdmuA) (omega arith) (omega arith) i; b = be16-same p (packetsAt cdmuB) (omega arith) (omega arith) i };
         telemetry =
-            record { a = be16-same p 37 (omega arith) (omega arith) i; b = be16-same p 39 (omega arith) (omega arith) i };
-        commands = be16-same p 27 (omega arith) (omega arith) i;
-        errors = p .byte 41 (omega arith) (omega arith) i;
-        code = p .byte 42 (omega arith) (omega arith) i;
-        sequence = p .byte 43 (omega arith) (omega arith) i;
-        id = p .byte 44 (omega arith) (omega arith) i;
+            record { a = be16-same p (telemetryAt cdmuA) (omega arith) (omega arith) i; b = be16-same p (telemetryAt cdmuB) (omega arith) (omega arith) i };
+        commands = be16-same p commandsAt (omega arith) (omega arith) i;
+        errors = p .byte errorsAt (omega arith) (omega arith) i;
+        code = p .byte codeAt (omega arith) (omega arith) i;
+        sequence = p .byte sequenceAt (omega arith) (omega arith) i;
+        id = p .byte idAt (omega arith) (omega arith) i;
       }
 
   -- past the last stream there is no count
@@ -144,6 +145,19 @@ open-room s t h = ⊎-elim (λ z. absurd (omega arith)) fewer (held-room s t)
         let r = several-rules t (lt-ltb 1 (perPacket t) (omega arith)) in
         (r .small, omega (arith, r .bytes, times-le (heldIn s t) (perPacket t) (width t) (omega arith)))
 
+-- a stream whose packets stay open has room for one sample more
+pub record Room (s : List ℕ) (t : ℕ) : Type 0 where
+  pub small : t < streams
+  pub few : heldIn s t < perPacket t
+  pub fits : heldIn s t * width t + width t ≤ 144
+
+pub room : (s : List ℕ) (t : ℕ) → staysOpen t ≡ true → Room s t
+room s t h =
+    let r = several-rules t h in
+    let few : heldIn s t < perPacket t = ⊎-elim (λ z. omega (arith, ltb-true 1 (perPacket t) h)) (λ l. l) (held-room s t) in
+    let more = times-le (suc (heldIn s t)) (perPacket t) (width t) (omega arith) in
+    record { small = r .small; few = few; fits = omega (arith, r .bytes, suc-mul (heldIn s t) (width t)) }
+
 -- a number that an open packet can have is what it says
 pub held-byte : (s : List ℕ) (t n : ℕ) → getD s (openAt t) 0 ≡ n → n < perPacket t → heldIn s t ≡ n
 unfolding heldIn
@@ -188,7 +202,7 @@ module _ (x y : List ℕ) (wx : stateBytes ≤ length x) (wy : stateBytes ≤ le
               time = be24-same p (openAt t + 1) (omega arith) (omega arith) i;
               mode = p .byte (openAt t + 4) (omega arith) (omega arith) i;
             };
-        samples = kept (form t) (samples i);
+        samples = byForm (form t) (samples i);
       }
 
   held-same : (t : ℕ) → Same x y (openAt t) (openAt t + 150) → heldIn x t ≡ heldIn y t
@@ -240,39 +254,18 @@ module _ (x y : List ℕ) (wx : stateBytes ≤ length x) (wy : stateBytes ≤ le
 -- ---- the whole view
 
 -- bytes that agree everywhere but in the queue's numbers, the streams' counts, the open packets and the slots
-pub streams-same : (x y : List ℕ) → Fit y → stateBytes ≤ length x → Same x y 0 firstAt → Same x y housedAt (countAt 0)
+pub streams-same : (x y : List ℕ) → Whole y → Whole x → Same x y 0 firstAt → Same x y housedAt (countAt 0)
     → Same x y ringAt slotsAt
     → view x ≡ withStreams (view y) (streamsIn x)
 unfolding view
 streams-same x y f w p q r i =
     record {
-      clock = clock-same x y (same-within 0 8 p (omega arith) (omega arith)) i;
-      standing = standing-same x y (same-within 8 17 p (omega arith) (omega arith)) i;
-      impact =
-          impact-same x y (omega (arith, be16-same p placeAt (omega arith) (omega arith)))
-          (same-within 17 27 p (omega arith) (omega arith)) r i;
-      tallies = tallies-same x y (same-within 27 45 p (omega arith) (omega arith)) i;
-      housed = housed-same x y w (f .whole) q i;
+      clock = clock-same x y (same-within timeAt nibbleAt p (omega arith) (omega arith)) i;
+      standing = standing-same x y (same-within nibbleAt flagAt p (omega arith) (omega arith)) i;
+      impact = impact-same x y (same-within flagAt commandsAt p (omega arith) (omega arith)) r i;
+      tallies = tallies-same x y (same-within commandsAt firstAt p (omega arith) (omega arith)) i;
+      housed = housed-same x y w f q i;
       streams = streamsIn x;
-    }
-
--- ---- ranges
-
--- bytes in range stay so where the first bytes agree, and the queue's numbers are in range
-pub fit-same : (x y : List ℕ) → Fit y → stateBytes ≤ length x → Same x y 0 firstAt → getD x firstAt 0 < 48
-    → getD x waitingAt 0 ≤ 48
-    → Fit x
-fit-same x y f w p first waiting =
-    record {
-      whole = w;
-      m = omega (arith, be16-same p 6 (omega arith) (omega arith));
-      nibble = omega (arith, p .byte 8 (omega arith) (omega arith));
-      flag = omega (arith, p .byte 17 (omega arith) (omega arith));
-      window = omega (arith, p .byte 22 (omega arith) (omega arith));
-      place = omega (arith, be16-same p 23 (omega arith) (omega arith));
-      further = omega (arith, be16-same p 25 (omega arith) (omega arith));
-      first = first;
-      waiting = waiting;
     }
 
 -- ---- a run that is stored elsewhere
@@ -281,28 +274,26 @@ module _ (s : List ℕ) (at : ℕ) (v : List ℕ) (fits : at + length v ≤ leng
   still : stateBytes ≤ length (put s at v)
   still = omega (arith, length-put s at v fits)
 
-  pub clock-apart : 8 ≤ at → clockIn (put s at v) ≡ clockIn s
-  clock-apart h = clock-same (put s at v) s (put-same s at v fits 0 8 (inr h))
+  pub clock-apart : nibbleAt ≤ at → clockIn (put s at v) ≡ clockIn s
+  clock-apart h = clock-same (put s at v) s (put-same s at v fits timeAt nibbleAt (inr h))
 
-  pub standing-apart : Outside at v 8 17 → standingIn (put s at v) ≡ standingIn s
-  standing-apart h = standing-same (put s at v) s (put-same s at v fits 8 17 h)
+  pub standing-apart : Outside at v nibbleAt flagAt → standingIn (put s at v) ≡ standingIn s
+  standing-apart h = standing-same (put s at v) s (put-same s at v fits nibbleAt flagAt h)
 
-  -- the ring's oldest place says where it is read from: it is in range
-  pub impact-apart : be16 s placeAt < 512 → Outside at v 17 27 → Outside at v ringAt slotsAt
-      → impactIn (put s at v) ≡ impactIn s
-  impact-apart b h r =
-      sym
-      (impact-same s (put s at v) (omega arith) (same-sym (put-same s at v fits 17 27 h))
-      (same-sym (put-same s at v fits ringAt slotsAt r)))
+  pub impact-apart : Outside at v flagAt commandsAt → Outside at v ringAt slotsAt → impactIn (put s at v) ≡ impactIn s
+  impact-apart h r =
+      impact-same (put s at v) s (put-same s at v fits flagAt commandsAt h) (put-same s at v fits ringAt slotsAt r)
 
-  pub tallies-apart : Outside at v 27 45 → talliesIn (put s at v) ≡ talliesIn s
-  tallies-apart h = tallies-same (put s at v) s (put-same s at v fits 27 45 h)
+  pub tallies-apart : Outside at v commandsAt firstAt → talliesIn (put s at v) ≡ talliesIn s
+  tallies-apart h = tallies-same (put s at v) s (put-same s at v fits commandsAt firstAt h)
 
-  pub first-apart : Outside at v firstAt waitingAt → getD (put s at v) firstAt 0 ≡ getD s firstAt 0
-  first-apart h = put-same s at v fits firstAt waitingAt h .byte firstAt (omega arith) (omega arith)
+  pub first-apart : Outside at v firstAt waitingAt → firstIn (put s at v) ≡ firstIn s
+  first-apart h =
+      ap (λ (n : ℕ). n % 48) (put-same s at v fits firstAt waitingAt h .byte firstAt (omega arith) (omega arith))
 
-  pub waiting-apart : Outside at v waitingAt housedAt → getD (put s at v) waitingAt 0 ≡ getD s waitingAt 0
-  waiting-apart h = put-same s at v fits waitingAt housedAt h .byte waitingAt (omega arith) (omega arith)
+  pub waiting-apart : Outside at v waitingAt housedAt → waitingIn (put s at v) ≡ waitingIn s
+  waiting-apart h =
+      ap (capped 48) (put-same s at v fits waitingAt housedAt h .byte waitingAt (omega arith) (omega arith))
 
   pub housed-apart : Outside at v housedAt (countAt 0) → part (put s at v) housedAt 58 ≡ part s housedAt 58
   housed-apart h = housed-same (put s at v) s still whole (put-same s at v fits housedAt (countAt 0) h)

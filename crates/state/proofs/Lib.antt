@@ -1,4 +1,5 @@
--- Laws of the lent bytes: what a store elsewhere leaves (Apart), the pieces that wait (Pieces), and the ranges as facts (Ranges).
-pub mod Ranges
+-- Laws of the lent bytes: numbers that go no further than another (Numbers), what a store elsewhere leaves (Apart), and the pieces
+-- that wait (Pieces).
+pub mod Numbers
 pub mod Apart
 pub mod Pieces

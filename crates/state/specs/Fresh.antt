@@ -2,13 +2,10 @@
 -- Assumes nothing.
 use mathlib.Core.List.{List, [], _∷_}
 use Prim.Native.Nat.{ℕ}
-use lib.ListN.{replicate}
 use Rattle.wire.specs.Wire.{put}
-use Rattle.state.specs.Layout.{nibbleAt, stateBytes}
-
-unfoldable pub zeros : List ℕ
-zeros = replicate stateBytes 0
+use Rattle.lent.specs.Fitting.{blankOn}
+use Rattle.state.specs.Layout.{controllerMark, nibbleAt, stateBytes}
 
 -- "A fresh controller has mode 1, unlocked, all numbers 0."
 unfoldable pub startedOn : List ℕ → List ℕ
-startedOn s = put (put s 0 zeros) nibbleAt (1 ∷ [])
+startedOn s = put (blankOn stateBytes controllerMark s) nibbleAt (1 ∷ [])

@@ -1,6 +1,7 @@
--- The controller that lent bytes hold.
+-- The controller that lent bytes hold, whatever they are: a number that has a greatest value or so many bits says something for
+-- any bytes.
 -- Assumes nothing.
-use mathlib.Core.Bool.{Bool, true, false, cond}
+use mathlib.Core.Bool.{cond}
 use mathlib.Core.List.{List, [], _∷_, _++_, map}
 use Prim.Native.Nat.{ℕ, zero, suc, _+_, _-_, _*_, _/_, _%_}
 use lib.Dec.{eqb, leb, ltb}
@@ -11,22 +12,55 @@ use Rattle.impact.specs.Words.{wordsOf}
 use Rattle.paper.specs.Frames.{Channel, cdmuA, cdmuB}
 use Rattle.paper.specs.Clock.{Clock}
 use Rattle.paper.specs.Mode.{modeOf, Standing}
-use Rattle.paper.specs.Impact.{Impact, Stamp, Collection, idle, running}
+use Rattle.paper.specs.Impact.{Impact, Collection, idle, running}
 use Rattle.paper.specs.Streams.{Form, ofBytes, of12Bits, perPacket, width, form}
 use Rattle.paper.specs.Packets.{chunks}
 use Rattle.paper.specs.Queue.{Piece, piece}
 use Rattle.paper.specs.Controller.{Both, Tallies, Open, nothingOpen, Streams, Controller}
-use Rattle.state.specs.Layout.{timeAt, altitudeAt, spinAt, phaseAt, mAt, nibbleAt, entryTimeAt, oldAt, entryAltitudeAt, referenceAt, flagAt, impactTimeAt, impactModeAt, windowAt, placeAt, furtherAt, commandsAt, broadcastsAt, packetsAt, telemetryAt, errorsAt, codeAt, sequenceAt, idAt, firstAt, waitingAt, housedAt, streams, countAt, openAt, samplesAt, ringAt, slotAt}
+use Rattle.state.specs.Layout.{timeAt, altitudeAt, spinAt, phaseAt, mAt, nibbleAt, entryTimeAt, oldAt, entryAltitudeAt, referenceAt, flagAt, impactTimeAt, impactModeAt, windowAt, oldestAt, furtherAt, commandsAt, broadcastsAt, packetsAt, telemetryAt, errorsAt, codeAt, sequenceAt, idAt, firstAt, waitingAt, housedAt, streams, countAt, openAt, samplesAt, ringAt, slotAt}
+
+-- ---- numbers
+
+-- a number that goes no further than another
+unfoldable pub capped : ℕ → ℕ → ℕ
+capped most n = cond (ltb n most) n most
+
+-- m, "which stays at 1023"
+abbrev pub mIn : List ℕ → ℕ
+mIn s = capped 1023 (be16 s mAt)
+
+-- the mode, plus 8 if locked
+abbrev pub nibbleIn : List ℕ → ℕ
+nibbleIn s = getD s nibbleAt 0 % 16
+
+-- the window of five comparisons, the ring's oldest place, and the collection
+abbrev pub windowIn : List ℕ → ℕ
+windowIn s = getD s windowAt 0 % 32
+
+abbrev pub oldestIn : List ℕ → ℕ
+oldestIn s = be16 s oldestAt % 512
+
+abbrev pub furtherIn : List ℕ → ℕ
+furtherIn s = capped 448 (be16 s furtherAt)
+
+-- the queue's first slot, and how many pieces wait
+abbrev pub firstIn : List ℕ → ℕ
+firstIn s = getD s firstAt 0 % 48
+
+abbrev pub waitingIn : List ℕ → ℕ
+waitingIn s = capped 48 (getD s waitingAt 0)
+
+-- ---- the controller's parts
 
 unfoldable pub clockIn : List ℕ → Clock
 clockIn s =
-    record { time = be16 s timeAt; altitude = be16 s altitudeAt; spin = getD s spinAt 0; phase = getD s phaseAt 0; m = be16 s mAt }
+    record { time = be16 s timeAt; altitude = be16 s altitudeAt; spin = getD s spinAt 0; phase = getD s phaseAt 0; m = mIn s }
 
 unfoldable pub standingIn : List ℕ → Standing
 standingIn s =
     record {
-      mode = modeOf (getD s nibbleAt 0 % 8);
-      locked = leb 8 (getD s nibbleAt 0);
+      mode = modeOf (nibbleIn s % 8);
+      locked = leb 8 (nibbleIn s);
       entry = record { time = be24 s entryTimeAt; altitude = be16 s entryAltitudeAt; old = getD s oldAt 0 };
       reference = be16 s referenceAt;
     }
@@ -44,9 +78,9 @@ impactIn s =
     record {
       flag = eqb (getD s flagAt 0) 1;
       stamp = record { time = be24 s impactTimeAt; mode = getD s impactModeAt 0 };
-      window = windowOf (getD s windowAt 0);
-      ring = ringFrom s (be16 s placeAt);
-      collection = collectionOf (be16 s furtherAt);
+      window = windowOf (windowIn s);
+      ring = ringFrom s (oldestIn s);
+      collection = collectionOf (furtherIn s);
     }
 
 abbrev pub bothIn : List ℕ → (Channel → ℕ) → Both
@@ -69,13 +103,13 @@ talliesIn s =
 abbrev pub twelve : List ℕ → List ℕ
 twelve x = bytes16 (be16 x 0 % 4096)
 
-abbrev pub kept : Form → List (List ℕ) → List (List ℕ)
-kept ofBytes xs = xs
-kept of12Bits xs = map twelve xs
+abbrev pub byForm : Form → List (List ℕ) → List (List ℕ)
+byForm ofBytes xs = xs
+byForm of12Bits xs = map twelve xs
 
 -- n samples of stream t, as they came
 unfoldable pub samplesIn : List ℕ → ℕ → ℕ → List (List ℕ)
-samplesIn s t n = kept (form t) (chunks (width t) n (drop (samplesAt t) s))
+samplesIn s t n = byForm (form t) (chunks (width t) n (drop (samplesAt t) s))
 
 -- the open packet of stream t, which has n samples
 abbrev pub openOf : List ℕ → ℕ → ℕ → Open
@@ -106,7 +140,7 @@ piecesIn s i zero = []
 piecesIn s i (suc n) = pieceIn s (i % 48) ∷ piecesIn s (i + 1) n
 
 abbrev pub streamsIn : List ℕ → Streams
-streamsIn s = record { opened = openIn s; counts = countIn s; queue = piecesIn s (getD s firstAt 0) (getD s waitingAt 0) }
+streamsIn s = record { opened = openIn s; counts = countIn s; queue = piecesIn s (firstIn s) (waitingIn s) }
 
 unfoldable pub view : List ℕ → Controller
 view s =

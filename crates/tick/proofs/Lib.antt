@@ -1,2 +1,2 @@
 -- The reply to a tick by what stands in the lent bytes.
-pub mod Judged
+pub mod TickReply

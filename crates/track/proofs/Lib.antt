@@ -1,3 +1,3 @@
 -- The laws of a move, case by case, and that they leave one outcome.
-pub mod Laws
+pub mod RightMoves
 pub mod Only

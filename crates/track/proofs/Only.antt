@@ -8,16 +8,16 @@ use native.Mathlib.Nat.{mod-lt}
 use borrow.Author.Tests.{eqb-true, eqb-false}
 use lib.Dec.{eqb}
 use Rattle.paper.specs.Reader as paper
-use Rattle.paper.specs.Reader.{Arrival, repeated, taken, finished}
+use Rattle.paper.specs.Reader.{ArrivalEffect, repeated, taken, finished}
 use Rattle.track.specs.declared.Track.{Track}
 use Rattle.track.specs.declared.Moved.{Moved}
 use Rattle.track.specs.declared.Move.{Move}
 use Rattle.track.specs.declared.Move.the-variants.{Repeat, Dropped, Kept, Finished}
-use Rattle.track.specs.Moves.{tracked, with, meant, InRange, Right}
-use Rattle.track.proofs.Laws.{repeats, drops, keeps, finishes, right-repeat, right-dropped, right-kept, right-finished}
+use Rattle.track.specs.Moves.{tracked, withPiece, meant, InRange, Right}
+use Rattle.track.proofs.RightMoves.{repeats, drops, keeps, finishes, right-repeat, right-dropped, right-kept, right-finished}
 
 -- the record that an arrival leaves is read off it, but for a repeat
-abbrev recordOf : {A : Type 0} → Track → Arrival A → Track
+abbrev recordOf : {A : Type 0} → Track → ArrivalEffect A → Track
 recordOf t repeated = t
 recordOf t (taken u) = record { last = u .last; place = u .place; running = u .running }
 recordOf t (finished u g) = record { last = u .last; place = u .place; running = u .running }
@@ -27,12 +27,12 @@ abbrev keptOf : {A : Type 0} → List A → Move
 keptOf [] = Dropped
 keptOf (x ∷ xs) = Kept
 
-abbrev moveOf : {A : Type 0} → Arrival A → Move
+abbrev moveOf : {A : Type 0} → ArrivalEffect A → Move
 moveOf repeated = Repeat
 moveOf (taken u) = keptOf (u .gathered)
 moveOf (finished u g) = Finished
 
-kept-one : (b : Bool) (x : List ℕ) → keptOf (with b [] x) ≡ Kept
+kept-one : (b : Bool) (x : List ℕ) → keptOf (withPiece b [] x) ≡ Kept
 kept-one true x = refl
 kept-one false x = refl
 
@@ -52,7 +52,7 @@ module _ (t : Track) (k count : ℕ) where
   -- the move and the record, read off the paper's `arrive`
   abbrev readOff : Moved
   readOff =
-      let a : Arrival (List ℕ) = paper.arrive k (tracked t []) count [] in
+      let a : ArrivalEffect (List ℕ) = paper.arrive k (tracked t []) count [] in
       record { track = recordOf t a; step = moveOf a }
 
   read-off : (r : Moved) → Right t k count r → readOff ≡ r

@@ -6,7 +6,7 @@ use mathlib.Core.Path.{_≡_}
 use Prim.Native.Nat.{ℕ, _<_}
 use lib.Dec.{eqb}
 use Rattle.paper.specs.Reader as paper
-use Rattle.paper.specs.Reader.{Arrival, repeated, taken, finished}
+use Rattle.paper.specs.Reader.{ArrivalEffect, repeated, taken, finished}
 use Rattle.track.specs.declared.Track.{Track}
 use Rattle.track.specs.declared.Moved.{Moved}
 use Rattle.track.specs.declared.Move.{Move}
@@ -17,16 +17,16 @@ abbrev pub tracked : {A : Type 0} → Track → List A → paper.Track A
 tracked t g = record { last = t .last; place = t .place; running = t .running; gathered = g }
 
 -- "at place 0 gathering starts anew": the pieces with one more, gathered at its place
-abbrev pub with : {A : Type 0} → Bool → List A → A → List A
-with true g x = x ∷ []
-with false g x = g ++ (x ∷ [])
+abbrev pub withPiece : {A : Type 0} → Bool → List A → A → List A
+withPiece true g x = x ∷ []
+withPiece false g x = g ++ (x ∷ [])
 
 -- what each move is to the paper: the record after it is t, the pieces before it are g, the piece that arrived is x
-abbrev pub meant : {A : Type 0} → Move → Track → List A → A → Arrival A
+abbrev pub meant : {A : Type 0} → Move → Track → List A → A → ArrivalEffect A
 meant Repeat t g x = repeated
 meant Dropped t g x = taken (tracked t [])
-meant Kept t g x = taken (tracked t (with (eqb (t .place) 0) g x))
-meant Finished t g x = finished (tracked t []) (with (eqb (t .place) 0) g x)
+meant Kept t g x = taken (tracked t (withPiece (eqb (t .place) 0) g x))
+meant Finished t g x = finished (tracked t []) (withPiece (eqb (t .place) 0) g x)
 
 -- what the numbers of a record, its stream's pieces and a count are
 pub record InRange (t : Track) (k n : ℕ) : Type 0 where

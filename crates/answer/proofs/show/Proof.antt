@@ -1,6 +1,6 @@
 -- `answer::show` meets its contract.
 -- Assumes nothing.
-use mathlib.Core.Path.{_≡_, _∙_}
+use mathlib.Core.Path.{_∙_}
 use Rattle.frames.specs.Meaning.{channel}
 use Rattle.answer.proofs.Shown.{shows}
 use borrow.Author.Needs.{needs}
@@ -37,11 +37,8 @@ slice-aggregate-copy-to c = search needs
 copy-to-requires : tie.Need-copy-to-requires
 copy-to-requires c κs = search needs
 
-shared-slice-read-size : tie.Need-shared-slice-read-size
-shared-slice-read-size c = search needs
-
-size-requires : tie.Need-size-requires
-size-requires c κs = search needs
+first-requires : tie.Need-first-requires
+first-requires c κs = search needs
 
 slot-at-requires : tie.Need-slot-at-requires
 slot-at-requires c κs = search needs
@@ -53,7 +50,7 @@ same-length : tie.Need-same-length
 same-length c = search needs
 
 returns : tie.Need-returns
-returns c = c .before .before .copy-part .ensures ∙ rw (c .before .before .before .slot-at .ensures .0, c .before .before .before .before .size .ensures .0, c .before .before .before .before .before .before .before .before .before .copy-to .ensures, c .before .before .before .before .before .before .before .before .before .before .before .before .before .before .before .hi .ensures, c .before .before .before .before .before .before .before .before .before .before .before .before .before .before .lo .ensures, c .before .before .before .before .before .before .before .before .before .before .before .before .before .hi2 .ensures, c .before .before .before .before .before .before .before .before .before .before .before .before .lo2 .ensures, c .before .before .before .before .before .before .before .before .before .before .before .before .before .before .before .before .before .before .packet-id .ensures, c .before .before .before .before .before .before .before .before .before .before .before .before .before .before .before .before .get16 .ensures, c .before .before .before .before .before .before .before .before .before .before .before .before .before .before .before .before .before .channel-at .ensures .0) (shows (c .before .before .before .before .before .before .before .before .before .before .before .before .before .before .before .before .before .before .before .before .before .args .s .now) (c .before .before .before .before .before .before .before .before .before .before .before .before .before .before .before .before .before .before .before .before .before .pre .0) (λ i. c .before .before .before .before .before .before .before .before .before .before .before .before .before .before .before .before .before .before .before .before .shared-slice-known .given i .fits) (c .before .before .before .before .before .before .before .before .before .before .before .before .before .before .before .before .before .before .before .before .before .pre .1) (c .before .before .before .before .before .before .before .before .before .before .before .before .before .before .before .before .before .before .before .before .before .args .out .now) (channel (c .before .before .before .before .before .before .before .before .before .before .before .before .before .before .before .before .before .before .before .before .before .args .side)) (c .before .before .before .before .before .before .before .before .before .before .before .before .before .before .before .before .before .before .before .before .before .pre .2))
+returns c = c .before .before .copy-part .ensures ∙ rw (c .before .before .before .slot-at .ensures .0, c .before .before .before .before .first .ensures .0, c .before .before .before .before .before .before .before .before .copy-to .ensures, c .before .before .before .before .before .before .before .before .before .before .before .before .before .before .hi .ensures, c .before .before .before .before .before .before .before .before .before .before .before .before .before .lo .ensures, c .before .before .before .before .before .before .before .before .before .before .before .before .hi2 .ensures, c .before .before .before .before .before .before .before .before .before .before .before .lo2 .ensures, c .before .before .before .before .before .before .before .before .before .before .before .before .before .before .before .before .before .packet-id .ensures, c .before .before .before .before .before .before .before .before .before .before .before .before .before .before .before .get16 .ensures, c .before .before .before .before .before .before .before .before .before .before .before .before .before .before .before .before .channel-at .ensures .0) (shows (c .before .before .before .before .before .before .before .before .before .before .before .before .before .before .before .before .before .before .before .before .args .s .now) (c .before .before .before .before .before .before .before .before .before .before .before .before .before .before .before .before .before .before .before .before .pre .0) (λ i. c .before .before .before .before .before .before .before .before .before .before .before .before .before .before .before .before .before .before .before .shared-slice-known .given i .fits) (c .before .before .before .before .before .before .before .before .before .before .before .before .before .before .before .before .before .before .before .before .pre .1) (c .before .before .before .before .before .before .before .before .before .before .before .before .before .before .before .before .before .before .before .before .args .out .now) (channel (c .before .before .before .before .before .before .before .before .before .before .before .before .before .before .before .before .before .before .before .before .args .side)) (c .before .before .before .before .before .before .before .before .before .before .before .before .before .before .before .before .before .before .before .before .pre .2))
 
 pub show-spec : {M : Type 1} → statement M
 show-spec =
@@ -69,8 +66,7 @@ show-spec =
     lo-requires-2
     slice-aggregate-copy-to
     copy-to-requires
-    shared-slice-read-size
-    size-requires
+    first-requires
     slot-at-requires
     copy-part-requires
     same-length

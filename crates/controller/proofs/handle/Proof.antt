@@ -11,9 +11,6 @@ use Rattle.machine.proofs.Joins.{quiet, housed-bytes}
 use borrow.Author.Needs.{needs}
 use Rattle.controller.proofs.handle.Statement.{statement}
 use Rattle.controller.proofs.handle.Tie as tie
-use Rattle.order.proofs.frame.Reads as frame-reads′
-use Rattle.sample.proofs.frame.Reads as frame-reads′′
-use Rattle.tick.proofs.frame.Reads as frame-reads′′′
 
 enum-known-k : tie.Need-enum-known-k
 enum-known-k c = search needs
@@ -57,7 +54,7 @@ enum-told-3 c = search needs
 house-requires : tie.Need-house-requires
 house-requires c κs =
     let long : length (c .before .before .before .before .before .before .args .f .now) ≡ 59 = rw (c .before .enum-told3 .given .1) at (c .before .before .before .before .before .before .pre .1) in
-    (c .before .before .before .before .before .before .pre .0 .whole, long)
+    (c .before .before .before .before .before .before .pre .0, long)
 
 enum-told-4 : tie.Need-enum-told-4
 enum-told-4 c = search needs

@@ -1,6 +1,6 @@
 -- `entry::note` meets its contract.
 -- Assumes nothing.
-use mathlib.Core.Path.{_≡_, _∙_}
+use mathlib.Core.Path.{_∙_}
 use borrow.Author.Needs.{needs}
 use Rattle.entry.proofs.note.Statement.{statement}
 use Rattle.entry.proofs.note.Tie as tie
@@ -17,17 +17,17 @@ mid24-requires c κs = search needs
 low24-requires : tie.Need-low24-requires
 low24-requires c κs = search needs
 
-slice-read-t12 : tie.Need-slice-read-t12
-slice-read-t12 c = search needs
+nibble-requires : tie.Need-nibble-requires
+nibble-requires c κs = search needs
 
-slice-read-t14 : tie.Need-slice-read-t14
-slice-read-t14 c = search needs
+slice-read-t15 : tie.Need-slice-read-t15
+slice-read-t15 c = search needs
 
-add-t15 : tie.Need-add-t15
-add-t15 c = search needs
+add-t16 : tie.Need-add-t16
+add-t16 c = search needs
 
-slice-read-t17 : tie.Need-slice-read-t17
-slice-read-t17 c = search needs
+slice-read-t18 : tie.Need-slice-read-t18
+slice-read-t18 c = search needs
 
 hi-requires : tie.Need-hi-requires
 hi-requires c κs = search needs
@@ -45,7 +45,7 @@ same-length : tie.Need-same-length
 same-length c = search needs
 
 returns : tie.Need-returns
-returns c = c .before .before .copy-to .ensures ∙ rw (c .before .before .before .before .before .before .before .before .before .before .before .before .top24 .ensures, c .before .before .before .before .before .before .before .before .before .before .before .mid24 .ensures, c .before .before .before .before .before .before .before .before .before .before .low24 .ensures, c .before .before .before .before .before .before .before .before .before .before .before .before .before .now-in .ensures .0, c .before .before .before .before .before .before .hi .ensures, c .before .before .before .before .before .lo .ensures)
+returns c = c .before .before .copy-to .ensures ∙ rw (c .before .before .before .before .before .before .before .before .before .before .before .before .before .top24 .ensures, c .before .before .before .before .before .before .before .before .before .before .before .before .mid24 .ensures, c .before .before .before .before .before .before .before .before .before .before .before .low24 .ensures, c .before .before .before .before .before .before .before .before .before .before .before .before .before .before .now-in .ensures .0, c .before .before .before .before .before .before .before .before .before .nibble .ensures .0, c .before .before .before .before .before .before .hi .ensures, c .before .before .before .before .before .lo .ensures)
 
 pub note-spec : {M : Type 1} → statement M
 note-spec =
@@ -55,10 +55,10 @@ note-spec =
     top24-requires
     mid24-requires
     low24-requires
-    slice-read-t12
-    slice-read-t14
-    add-t15
-    slice-read-t17
+    nibble-requires
+    slice-read-t15
+    add-t16
+    slice-read-t18
     hi-requires
     lo-requires
     slice-aggregate-copy-to

@@ -4,7 +4,7 @@ use mathlib.Core.Path.{_≡_, refl, subst}
 use Prim.Native.Nat.{ℕ, _≤_}
 use borrow.Author.Tests.{eq-eqb, ne-eqb, le-leb}
 use Rattle.paper.specs.Frames.{frameOf}
-use Rattle.frames.specs.Meaning.{Told}
+use Rattle.frames.specs.Meaning.{SideOf}
 use Rattle.frames.specs.declared.Sided.{Sided}
 use Rattle.frames.proofs.Faulty.{short, off}
 use borrow.Author.Needs.{needs}
@@ -12,8 +12,8 @@ use Rattle.frames.proofs.parse.Statement.{statement}
 use Rattle.frames.proofs.parse.Tie as tie
 
 -- what a channel byte says, by the arm that its side leads to
-told : (cc : ℕ) {r s : Sided} → Told cc r → r ≡ s → Told cc s
-told cc h e = subst (λ (x : Sided). Told cc x) e h
+told : (cc : ℕ) {r s : Sided} → SideOf cc r → r ≡ s → SideOf cc s
+told cc h e = subst (λ (x : Sided). SideOf cc x) e h
 
 returns : tie.Need-returns
 returns c = (short _ (c .if1 .taken), tt)

@@ -6,7 +6,7 @@ use Prim.Native.Nat.{_-_, _≤_}
 use borrow.Author.Tests.{ne-eqb, eq-eqb}
 use Rattle.wire.specs.Wire.{part}
 use Rattle.paper.specs.Reader.{all99}
-use Rattle.gather.proofs.Laws.{one-more, none-left}
+use Rattle.gather.proofs.Receiving.{one-more, none-left}
 use Rattle.gather.proofs.filled.Statement.{statement}
 use Rattle.gather.proofs.filled.Tie as tie
 

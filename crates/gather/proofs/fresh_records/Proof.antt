@@ -6,7 +6,7 @@ use native.Mathlib.Omega.{arith}
 use lib.ListN.{length}
 use borrow.Author.Needs.{needs}
 use Rattle.shelf.specs.Fresh.{freshOn}
-use Rattle.gather.proofs.Laws.{fresh-more}
+use Rattle.gather.proofs.Receiving.{fresh-more}
 use Rattle.gather.proofs.fresh_records.Statement.{statement}
 use Rattle.gather.proofs.fresh_records.Tie as tie
 

@@ -6,7 +6,7 @@ use lib.ListN.{drop, length-drop}
 use Rattle.track.specs.Moves.{Right}
 use Rattle.paper.specs.Streams.{pieces}
 use Rattle.paper.proofs.Table.{carried-rules}
-use Rattle.gather.proofs.Laws.{kept-whole, found, ok, repeat-arm, dropped-arm, kept-arm, finished-arm}
+use Rattle.gather.proofs.Receiving.{kept-whole, found, ok, repeat-arm, dropped-arm, kept-arm, finished-arm}
 use borrow.Author.Needs.{needs}
 use Rattle.gather.proofs.receive.Statement.{statement}
 use Rattle.gather.proofs.receive.Tie as tie

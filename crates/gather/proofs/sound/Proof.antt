@@ -8,7 +8,7 @@ use borrow.Author.Tests.{not-true, not-false}
 use Rattle.paper.specs.Streams.{listed}
 use Rattle.paper.proofs.Table.{carried-rules}
 use Rattle.shelf.specs.Layout.{gatherAt}
-use Rattle.gather.proofs.Laws.{marked, sound-bytes}
+use Rattle.gather.proofs.Receiving.{marked, sound-bytes}
 use borrow.Author.Needs.{needs}
 use Rattle.gather.proofs.sound.Statement.{statement}
 use Rattle.gather.proofs.sound.Tie as tie

@@ -1,10 +1,12 @@
 -- `gather::start` meets its contract.
 -- Assumes nothing.
 use borrow.Author.Tests.{lt-leb, le-leb}
-use mathlib.Core.Path.{ap}
-use Rattle.shelf.specs.Fresh.{startOf}
+use mathlib.Core.Path.{ap, _∙_}
+use mathlib.Core.List.{List}
+use Prim.Native.Nat.{ℕ}
+use Rattle.shelf.specs.Layout.{streams}
+use Rattle.shelf.specs.Fresh.{freshOn, startedOn, startOf}
 use Rattle.lent.specs.Told.{told}
-use Rattle.gather.proofs.Laws.{started-by}
 use borrow.Author.Needs.{needs}
 use Rattle.gather.proofs.start.Statement.{statement}
 use Rattle.gather.proofs.start.Tie as tie
@@ -13,11 +15,8 @@ returns : tie.Need-returns
 unfolding startOf
 returns c = rw (lt-leb _ _ (c .if1 .taken))
 
-fill-requires : tie.Need-fill-requires
-fill-requires c κs = search needs
-
-set16-requires : tie.Need-set16-requires
-set16-requires c κs = search needs
+blank-requires : tie.Need-blank-requires
+blank-requires c κs = search needs
 
 fresh-records-requires : tie.Need-fresh-records-requires
 fresh-records-requires c κs = search needs
@@ -26,10 +25,9 @@ same-length : tie.Need-same-length
 same-length c = search needs
 
 returns-2 : tie.Need-returns-2
-unfolding startOf
-returns-2 c = rw (le-leb _ _ (c .before .before .before .before .before .before .before .before .before .before .before .before .if1 .left)) (ap (told 0) (started-by _ _ _ _ (c .before .before .before .before .before .before .before .before .before .before .fill .ensures) (c .before .before .before .before .before .before .set16 .ensures) (c .before .before .fresh-records .ensures)))
+unfolding startOf startedOn
+returns-2 c = rw (le-leb _ _ (c .before .before .before .before .before .before .before .before .if1 .left)) (ap (told 0) (c .before .before .fresh-records .ensures ∙ ap (λ (l : List ℕ). freshOn l streams) (c .before .before .before .before .before .before .blank .ensures)))
 
 pub start-spec : {M : Type 1} → statement M
 start-spec =
-    tie.close
-    (tie.spec returns fill-requires set16-requires fresh-records-requires same-length returns-2)
+    tie.close (tie.spec returns blank-requires fresh-records-requires same-length returns-2)

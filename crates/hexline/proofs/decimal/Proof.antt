@@ -3,7 +3,7 @@ use Prim.Native.Nat.{_+_, _/_, _%_}
 use native.Mathlib.Omega.{arith}
 use borrow.Author.Tests.{lt-ltb, le-ltb}
 use lib.ListN.{length-set}
-use Rattle.hexline.proofs.Laws.{stored, stored-two}
+use Rattle.hexline.proofs.HexLines.{stored, stored-two}
 use borrow.Author.Needs.{needs}
 use Rattle.hexline.proofs.decimal.Statement.{statement}
 use Rattle.hexline.proofs.decimal.Tie as tie

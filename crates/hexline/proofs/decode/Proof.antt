@@ -4,14 +4,14 @@ use Prim.Native.Nat.{_≤_, _-_, _*_}
 use mathlib.Core.Path.{_≡_, refl, sym, ap, _∙_}
 use native.Mathlib.Omega.{arith}
 use lib.ListN.{length, take, drop, length-set}
-use Rattle.hexline.specs.Hex.{fronts, readHex}
-use Rattle.hexline.proofs.Laws.{fronts-none, read-step, read-high, read-low, read-odd, read-end}
+use Rattle.hexline.specs.Hex.{bytesInFront, readHex}
+use Rattle.hexline.proofs.HexLines.{fronts-none, read-step, read-high, read-low, read-odd, read-end}
 use Rattle.hexline.proofs.decode.Statement.{statement}
 use Rattle.hexline.proofs.decode.Tie as tie
 
 abbrev Inv-loop : tie.InvT-loop
 Inv-loop s out₀ i₀ n₀ out i n =
-    (i ≤ length s) × (i ≡ 2 * n) × (length out ≡ length out₀) × (fronts (take n out) (readHex (drop i s)) ≡ readHex s)
+    (i ≤ length s) × (i ≡ 2 * n) × (length out ≡ length out₀) × (bytesInFront (take n out) (readHex (drop i s)) ≡ readHex s)
 
 abbrev μ-loop : tie.MeasureT-loop
 μ-loop s out₀ i₀ n₀ out i n = length s - i
@@ -34,7 +34,7 @@ same-length c = omega arith
 returns : tie.Need-returns Inv-loop μ-loop
 returns c =
     let l = c .before .before .before .before .loop in
-    (omega arith, sym (ap (fronts (take (l .n) (l .out))) (read-high _ (l .i) _ (omega arith) (c .before .value .ensures) (c .if1 .taken))) ∙ l .inv .3)
+    (omega arith, sym (ap (bytesInFront (take (l .n) (l .out))) (read-high _ (l .i) _ (omega arith) (c .before .value .ensures) (c .if1 .taken))) ∙ l .inv .3)
 
 add-value : tie.Need-add-value Inv-loop μ-loop
 add-value c = omega arith
@@ -51,7 +51,7 @@ same-length-2 c = omega arith
 returns-2 : tie.Need-returns-2 Inv-loop μ-loop
 returns-2 c =
     let l = c .before .before .before .before .before .before .before .loop in
-    (omega arith, sym (ap (fronts (take (l .n) (l .out))) (read-low _ (l .i) _ (omega arith) (c .before .value2 .ensures) (c .if2 .taken))) ∙ l .inv .3)
+    (omega arith, sym (ap (bytesInFront (take (l .n) (l .out))) (read-low _ (l .i) _ (omega arith) (c .before .value2 .ensures) (c .if2 .taken))) ∙ l .inv .3)
 
 mul-out : tie.Need-mul-out Inv-loop μ-loop
 mul-out c = omega arith
@@ -87,7 +87,7 @@ same-length-3 c = omega arith
 returns-3 : tie.Need-returns-3 Inv-loop μ-loop
 returns-3 c =
     let l = c .before .before .loop in
-    (omega arith, sym (ap (fronts (take (l .n) (l .out))) (read-odd _ (l .i) (omega arith) (omega arith))) ∙ l .inv .3)
+    (omega arith, sym (ap (bytesInFront (take (l .n) (l .out))) (read-odd _ (l .i) (omega arith) (omega arith))) ∙ l .inv .3)
 
 same-length-4 : tie.Need-same-length-4 Inv-loop μ-loop
 same-length-4 c = omega arith

@@ -5,9 +5,9 @@ use native.Mathlib.Omega.{arith}
 use borrow.Author.Needs.{needs}
 use lib.ListN.{length, take}
 use lib.Seq.{length-take-le}
-use Rattle.hexline.proofs.Laws.{frame-bytes, frame-faulty, frame-over}
+use Rattle.hexline.proofs.HexLines.{frame-bytes, frame-faulty, frame-over}
 use Rattle.hexline.specs.declared.Decoded.{Decoded}
-use Rattle.hexline.specs.Hex.{said, countOf}
+use Rattle.hexline.specs.Hex.{readIn, byteCount}
 use Rattle.hexline.proofs.frame_of.Statement.{statement}
 use Rattle.hexline.proofs.frame_of.Tie as tie
 
@@ -37,8 +37,8 @@ returns-2 c =
     let d = c .before .before .before .before .before .decode in
     let a = c .before .before .before .before .before .before .before .before .before .before .before .args in
     let e = c .before .d .given .1 in (
-      omega (arith, ap countOf e),
-      frame-bytes (a .n) (c .before .d .given .0 .0) (a .line .now) (d .last .1 .0) (omega arith) (ap (λ (x : Decoded). said x (d .last .1 .0)) (sym e) ∙ d .ensures .1),
+      omega (arith, ap byteCount e),
+      frame-bytes (a .n) (c .before .d .given .0 .0) (a .line .now) (d .last .1 .0) (omega arith) (ap (λ (x : Decoded). readIn x (d .last .1 .0)) (sym e) ∙ d .ensures .1),
     )
 
 same-length-2 : tie.Need-same-length-2
@@ -50,7 +50,7 @@ returns-3 c =
     let a = c .before .before .before .before .before .before .before .before .before .before .args in
     let e = c .enum-told .given .1 in (
       omega arith,
-      frame-faulty (a .n) (a .line .now) (omega arith) (ap (λ (x : Decoded). said x (d .last .1 .0)) (sym e) ∙ d .ensures .1),
+      frame-faulty (a .n) (a .line .now) (omega arith) (ap (λ (x : Decoded). readIn x (d .last .1 .0)) (sym e) ∙ d .ensures .1),
     )
 
 pub frame-of-spec : {M : Type 1} → statement M

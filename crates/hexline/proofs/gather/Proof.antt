@@ -1,12 +1,12 @@
 -- `hexline::gather` meets its contract. The invariant: the scan of the rest from what is kept now is the scan of the whole from what
 -- was kept. The measure is the number of characters left. Assumes nothing.
-use Rattle.hexline.proofs.Laws.{goes-on, stops, onward-by, scan-end, scan-ended, scan-more, more-kept}
+use Rattle.hexline.proofs.HexLines.{goes-on, stops, onward-by, scan-end, scan-ended, scan-more, more-kept}
 use Prim.Native.Nat.{ℕ, _≤_, _-_, _+_}
 use mathlib.Core.Path.{_≡_, refl, sym, ap, _∙_}
 use native.Mathlib.Omega.{arith}
 use lib.ListN.{length, drop, getD, length-set}
-use Rattle.hexline.specs.Lines.{longest, Line, lineOf, scan}
-use Rattle.hexline.proofs.Laws.{goes-on, stops, scan-end, scan-ended, scan-more, more-kept}
+use Rattle.hexline.specs.Lines.{longest, LineSoFar, lineOf, scan}
+use Rattle.hexline.proofs.HexLines.{goes-on, stops, scan-end, scan-ended, scan-more, more-kept}
 use Rattle.hexline.proofs.gather.Statement.{statement}
 use Rattle.hexline.proofs.gather.Tie as tie
 
@@ -57,7 +57,7 @@ loop-again c =
       omega arith,
       simp length-set (l .inv .2),
       omega arith,
-      ap (λ (t : Line). scan t (drop (l .i + 1) chunk)) (sym (more-kept (l .k) (getD chunk (l .i) 0) (l .line) (l .inv .2) (h .1)))
+      ap (λ (t : LineSoFar). scan t (drop (l .i + 1) chunk)) (sym (more-kept (l .k) (getD chunk (l .i) 0) (l .line) (l .inv .2) (h .1)))
           ∙ sym (scan-more (lineOf (l .k) (l .line)) chunk (l .i) (h .0) (c .if1 .left))
           ∙ l .inv .4,
     )

@@ -5,8 +5,8 @@ use mathlib.Core.Path.{_≡_, refl, sym, ap, _∙_}
 use mathlib.Core.List.{List}
 use native.Mathlib.Omega.{arith}
 use lib.ListN.{length, drop, getD}
-use Rattle.hexline.specs.Lines.{longest, Line, lineOf, scan}
-use Rattle.hexline.proofs.Laws.{scan-end, scan-ended, scan-more, more-over}
+use Rattle.hexline.specs.Lines.{longest, LineSoFar, lineOf, scan}
+use Rattle.hexline.proofs.HexLines.{scan-end, scan-ended, scan-more, more-over}
 use Rattle.hexline.proofs.skip.Statement.{statement}
 use Rattle.hexline.proofs.skip.Tie as tie
 
@@ -50,7 +50,7 @@ loop-again c =
       omega arith,
       omega arith,
       (λ line e.
-          ap (λ (t : Line). scan t (drop (l .i + 1) chunk)) (sym (more-over (l .k) (getD chunk (l .i) 0) line e (omega arith)))
+          ap (λ (t : LineSoFar). scan t (drop (l .i + 1) chunk)) (sym (more-over (l .k) (getD chunk (l .i) 0) line e (omega arith)))
           ∙ sym (scan-more (lineOf (l .k) line) chunk (l .i) (omega arith) (c .if1 .left))
           ∙ l .inv .4 line e),
     )

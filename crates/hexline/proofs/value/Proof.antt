@@ -1,6 +1,6 @@
 -- `hexline::value` meets its contract: each return rewrites with the tests that led there. Assumes nothing.
 use native.Mathlib.Omega.{arith}
-use Rattle.hexline.proofs.Laws.{at-least}
+use Rattle.hexline.proofs.HexLines.{at-least}
 use Rattle.hexline.proofs.value.Statement.{statement}
 use Rattle.hexline.proofs.value.Tie as tie
 

@@ -10,8 +10,8 @@ use Rattle.paper.specs.Step.{crowded, queues}
 use Rattle.frames.specs.Meaning.{channel}
 use Rattle.command.specs.Meaning.{asked, meant}
 use Rattle.machine.specs.Obeyed.{notedOn, performedOn}
-use Rattle.machine.proofs.Counts.{noted-fit}
-use Rattle.order.proofs.Judged.{refuses, crowds, takes, noted-waits}
+use Rattle.machine.proofs.Past.{past-whole, noted-past}
+use Rattle.order.proofs.CommandReply.{refuses, crowds, takes, noted-waits}
 use mathlib.Core.Path.{_≡_, sym, ap, _∙_}
 use Prim.Native.Nat.{ℕ, _-_, _<_}
 use lib.ListN.{getD, drop}
@@ -89,7 +89,7 @@ obey-requires c κs =
     let q = asked (c .before .before .before .before .before .before .before .before .before .before .before .before .decoded .given .0 .0) in
     let said : meant (c .before .before .before .before .before .before .before .before .before .before .before .before .before .before .decode .result) ≡ Commands.request q = ap meant (c .before .before .before .before .before .before .before .before .before .before .before .before .decoded .given .1) in
     let free : (queues (Commands.request q) && crowded (view s) hk) ≡ false = rw (c .before .before .before .before .before .before .before .before .before .before .queues-packet .ensures, c .before .before .before .before .before .before .before .before .crowded .ensures) at (c .before .before .before .before .before .before .before .if1 .left) in
-    rw (c .before .before .before .note .ensures) ((noted-fit s (c .before .before .before .before .before .before .before .before .before .before .before .before .before .before .before .before .before .pre .0) _ _ _, λ t. omega (arith, noted-waits s (c .before .before .before .before .before .before .before .before .before .before .before .before .before .before .before .before .before .pre .0) (channel (c .before .before .before .before .before .before .before .before .before .before .before .before .before .before .before .before .before .args .side)) (c .before .before .before .before .before .get16 .result) (c .before .before .before .before .get162 .result), free-room s hk (c .before .before .before .before .before .before .before .before .before .before .before .before .before .before .before .before .before .pre .0) (rw t at free))), λ v e. c .before .before .before .before .before .before .before .before .before .before .before .before .before .before .decode .ensures .1 v (said ∙ ap Commands.request e))
+    rw (c .before .before .before .note .ensures) ((past-whole (noted-past s _ _ _ (c .before .before .before .before .before .before .before .before .before .before .before .before .before .before .before .before .before .pre .0)) (c .before .before .before .before .before .before .before .before .before .before .before .before .before .before .before .before .before .pre .0), λ t. omega (arith, noted-waits s (c .before .before .before .before .before .before .before .before .before .before .before .before .before .before .before .before .before .pre .0) (channel (c .before .before .before .before .before .before .before .before .before .before .before .before .before .before .before .before .before .args .side)) (c .before .before .before .before .before .get16 .result) (c .before .before .before .before .get162 .result), free-room s hk (rw t at free))), λ v e. c .before .before .before .before .before .before .before .before .before .before .before .before .before .before .decode .ensures .1 v (said ∙ ap Commands.request e))
 
 same-length-3 : tie.Need-same-length-3
 same-length-3 c = search needs

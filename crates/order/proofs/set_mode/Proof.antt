@@ -2,7 +2,7 @@
 -- Assumes nothing.
 use mathlib.Core.Path.{_≡_, _∙_}
 use Rattle.machine.specs.Obeyed.{commandedOn}
-use Rattle.machine.proofs.Entries.{idle-fit}
+use Rattle.machine.proofs.Past.{past-whole, further-past}
 use borrow.Author.Needs.{needs}
 use Rattle.order.proofs.set_mode.Statement.{statement}
 use Rattle.order.proofs.set_mode.Tie as tie
@@ -17,7 +17,7 @@ set16-requires : tie.Need-set16-requires
 set16-requires c κs = search needs
 
 enter-requires : tie.Need-enter-requires
-enter-requires c κs = let g = idle-fit (c .before .before .before .before .before .before .before .before .before .args .s .now) (c .before .before .before .before .before .before .before .before .before .pre .0) in rw (c .before .before .before .set16 .ensures) (g .whole, g .m)
+enter-requires c κs = rw (c .before .before .before .set16 .ensures) (past-whole (further-past (c .before .before .before .before .before .before .before .before .before .args .s .now) 0 (c .before .before .before .before .before .before .before .before .before .pre .0)) (c .before .before .before .before .before .before .before .before .before .pre .0))
 
 same-length : tie.Need-same-length
 same-length c = search needs

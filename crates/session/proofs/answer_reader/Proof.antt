@@ -9,7 +9,7 @@ use lib.Seq.{length-take-le}
 use Rattle.lent.specs.Told.{Res, res}
 use Rattle.shelf.specs.Received.{readOf}
 use Rattle.session.specs.Reader.{lineFor, answered, blank}
-use Rattle.session.proofs.Laws.{told}
+use Rattle.session.proofs.Written.{replied}
 use borrow.Author.Needs.{needs}
 use Rattle.session.proofs.answer_reader.Statement.{statement}
 use Rattle.session.proofs.answer_reader.Tie as tie
@@ -21,7 +21,7 @@ packet-requires : tie.Need-packet-requires
 packet-requires c κs = search needs
 
 handed-requires : tie.Need-handed-requires
-handed-requires c κs = told (c .before .before .before .before .before .before .before .before .before .args .state .now) (c .before .before .before .before .before .before .before .before .before .args .f .now) _ (res (c .before .before .before .packet .result) (c .before .before .before .packet .last .1 .1 .0) (c .before .before .before .packet .last .0)) (c .before .before .before .packet .ensures) .whole
+handed-requires c κs = replied (c .before .before .before .before .before .before .before .before .before .args .state .now) (c .before .before .before .before .before .before .before .before .before .args .f .now) _ (res (c .before .before .before .packet .result) (c .before .before .before .packet .last .1 .1 .0) (c .before .before .before .packet .last .0)) (c .before .before .before .packet .ensures) .whole
 
 array-share-prefix-room : tie.Need-array-share-prefix-room
 array-share-prefix-room c = search needs
@@ -31,7 +31,7 @@ slice-aggregate-put-heard c = sym (length-take-le (c .before .handed .result) (c
 
 put-heard-requires : tie.Need-put-heard-requires
 put-heard-requires c κs =
-    let t = told (c .before .before .before .before .before .before .before .before .before .before .before .before .args .state .now) (c .before .before .before .before .before .before .before .before .before .before .before .before .args .f .now) _ (res (c .before .before .before .before .before .before .packet .result) (c .before .before .before .before .before .before .packet .last .1 .1 .0) (c .before .before .before .before .before .before .packet .last .0)) (c .before .before .before .before .before .before .packet .ensures) in
+    let t = replied (c .before .before .before .before .before .before .before .before .before .before .before .before .args .state .now) (c .before .before .before .before .before .before .before .before .before .before .before .before .args .f .now) _ (res (c .before .before .before .before .before .before .packet .result) (c .before .before .before .before .before .before .packet .last .1 .1 .0) (c .before .before .before .before .before .before .packet .last .0)) (c .before .before .before .before .before .before .packet .ensures) in
     (omega (arith, t .small), omega (arith, c .before .before .before .before .before .before .before .before .before .before .before .before .pre, c .before .before .handed .ensures .0, length-take-le (c .before .before .handed .result) (c .before .before .before .before .before .before .packet .last .1 .1 .0) (omega (arith, c .before .before .before .before .before .before .packet .kept .1 .1 .0, c .before .before .handed .ensures .0))))
 
 same-length : tie.Need-same-length

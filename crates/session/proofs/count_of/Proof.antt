@@ -1,14 +1,14 @@
 -- `session::count_of` meets its contract: each return rewrites with the tests that led there. Assumes nothing.
 use native.Mathlib.Omega.{arith}
 use borrow.Author.Tests.{eq-eqb, ne-eqb}
-use Rattle.session.specs.Bench.{written}
-use Rattle.session.proofs.Laws.{none-written}
+use Rattle.session.specs.Bench.{bytesWritten}
+use Rattle.session.proofs.Written.{none-written}
 use borrow.Author.Needs.{needs}
 use Rattle.session.proofs.count_of.Statement.{statement}
 use Rattle.session.proofs.count_of.Tie as tie
 
 returns : tie.Need-returns
-unfolding written
+unfolding bytesWritten
 returns c = (omega arith, rw (ne-eqb _ _ (c .if1 .taken)))
 
 returns-2 : tie.Need-returns-2
@@ -18,18 +18,18 @@ shared-slice-read-if3 : tie.Need-shared-slice-read-if3
 shared-slice-read-if3 c = search needs
 
 returns-3 : tie.Need-returns-3
-unfolding written
+unfolding bytesWritten
 returns-3 c = (omega arith, rw (eq-eqb _ _ (c .before .before .before .if1 .left), eq-eqb _ _ (c .if3 .taken)))
 
 shared-slice-read-if4 : tie.Need-shared-slice-read-if4
 shared-slice-read-if4 c = search needs
 
 returns-4 : tie.Need-returns-4
-unfolding written
+unfolding bytesWritten
 returns-4 c = (omega arith, rw (eq-eqb _ _ (c .before .before .before .before .before .if1 .left), ne-eqb _ _ (c .before .before .if3 .left), eq-eqb _ _ (c .if4 .taken)))
 
 returns-5 : tie.Need-returns-5
-unfolding written
+unfolding bytesWritten
 returns-5 c = (omega arith, rw (eq-eqb _ _ (c .before .before .before .before .before .if1 .left), ne-eqb _ _ (c .before .before .if3 .left), ne-eqb _ _ (c .if4 .left)))
 
 pub count-of-spec : {M : Type 1} → statement M

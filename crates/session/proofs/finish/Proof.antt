@@ -2,7 +2,7 @@
 use Prim.Native.Nat.{ℕ}
 use mathlib.Core.Path.{_≡_, sym, ap, _∙_}
 use native.Mathlib.Omega.{arith}
-use Rattle.hexline.specs.Lines.{lineOf, frameOf}
+use Rattle.hexline.specs.Lines.{lineOf, frameOfLine}
 use Rattle.hexline.specs.Talk.{Answer, lastly}
 use Rattle.hexline.proofs.Talk.{last-line}
 use Rattle.session.specs.Programs.{answerTo}
@@ -33,7 +33,7 @@ returns-2 : tie.Need-returns-2
 returns-2 c =
     let a = c .before .before .before .before .before .before .before .before .before .before .before .before .before .before .before .args in
     let w = c .before .before .before .before .before .before .reply in
-    let e : answerTo (a .machine) (a .state .now) (frameOf (lineOf (a .n) (a .line .now))) ≡ lastly (answerTo (a .machine)) (lineOf (a .n) (a .line .now)) (a .state .now) =
+    let e : answerTo (a .machine) (a .state .now) (frameOfLine (lineOf (a .n) (a .line .now))) ≡ lastly (answerTo (a .machine)) (lineOf (a .n) (a .line .now)) (a .state .now) =
     last-line (answerTo (a .machine)) (a .n) (a .line .now) (a .state .now) (omega (arith, c .before .before .before .before .before .before .before .before .before .before .before .before .before .before .before .pre)) (c .before .before .before .before .before .before .before .before .before .before .if1 .left) in
     (w .ensures .0, (w .ensures .1 .0 ∙ ap (λ (x : Answer). x .text) e, w .ensures .1 .1 ∙ ap (λ (x : Answer). x .state) e))
 

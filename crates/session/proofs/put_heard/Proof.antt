@@ -2,7 +2,7 @@
 use native.Mathlib.Omega.{arith}
 use mathlib.Core.Path.{_∙_}
 use lib.ListN.{length-set}
-use Rattle.session.proofs.Laws.{put-heard}
+use Rattle.session.proofs.Written.{put-heard}
 use borrow.Author.Needs.{needs}
 use Rattle.session.proofs.put_heard.Statement.{statement}
 use Rattle.session.proofs.put_heard.Tie as tie

@@ -1,7 +1,7 @@
 -- `session::put_line` meets its contract: two digits, the text of the bytes and the LF are the line. Assumes nothing.
 use native.Mathlib.Omega.{arith}
 use lib.ListN.{length-set}
-use Rattle.session.proofs.Laws.{put}
+use Rattle.session.proofs.Written.{put-line}
 use borrow.Author.Needs.{needs}
 use Rattle.session.proofs.put_line.Statement.{statement}
 use Rattle.session.proofs.put_line.Tie as tie
@@ -41,7 +41,7 @@ returns c =
     let a = c .before .before .before .before .before .before .before .before .args in
     let e = c .before .before .encode in (
       omega arith,
-      put (a .reply) (a .bytes .now) (a .out .now) (e .last .1 .0) (a .used) (e .result) (c .before .before .before .before .before .digit .result) (c .before .before .before .before .digit2 .result) (c .before .before .before .before .before .digit .ensures) (c .before .before .before .before .digit2 .ensures)
+      put-line (a .reply) (a .bytes .now) (a .out .now) (e .last .1 .0) (a .used) (e .result) (c .before .before .before .before .before .digit .result) (c .before .before .before .before .digit2 .result) (c .before .before .before .before .before .digit .ensures) (c .before .before .before .before .digit2 .ensures)
           (e .ensures .1) (omega (arith, simp length-set at (e .kept .1 .0))) (omega arith),
     )
 

@@ -1,7 +1,7 @@
 -- `session::put_spaced` meets its contract. Assumes nothing.
 use native.Mathlib.Omega.{arith}
 use lib.ListN.{take, length-set}
-use Rattle.session.proofs.Laws.{none-spaced, some-spaced}
+use Rattle.session.proofs.Written.{none-spaced, some-spaced}
 use borrow.Author.Needs.{needs}
 use Rattle.session.proofs.put_spaced.Statement.{statement}
 use Rattle.session.proofs.put_spaced.Tie as tie

@@ -5,11 +5,8 @@ use borrow.Author.Needs.{needs}
 use Rattle.slots.proofs.crowded.Statement.{statement}
 use Rattle.slots.proofs.crowded.Tie as tie
 
-shared-slice-read-size : tie.Need-shared-slice-read-size
-shared-slice-read-size c = search needs
-
-size-requires : tie.Need-size-requires
-size-requires c κs = search needs
+waiting-requires : tie.Need-waiting-requires
+waiting-requires c κs = search needs
 
 pieces-requires : tie.Need-pieces-requires
 pieces-requires c κs = search needs
@@ -18,8 +15,7 @@ add-result : tie.Need-add-result
 add-result c = search needs
 
 returns : tie.Need-returns
-returns c = rw (c .before .size .ensures .0, c .pieces .ensures .0) (crowded-bytes (c .before .before .before .before .args .s .now) (c .before .before .before .before .args .stream) (c .before .before .before .before .pre))
+returns c = rw (c .before .waiting .ensures .0, c .pieces .ensures .0) (crowded-bytes (c .before .before .before .args .s .now) (c .before .before .before .args .stream))
 
 pub crowded-spec : {M : Type 1} → statement M
-crowded-spec =
-    tie.close (tie.spec shared-slice-read-size size-requires pieces-requires add-result returns)
+crowded-spec = tie.close (tie.spec waiting-requires pieces-requires add-result returns)

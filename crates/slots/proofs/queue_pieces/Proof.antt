@@ -5,6 +5,7 @@ use Prim.Native.Nat.{ℕ, _+_, _-_, _*_, _≤_}
 use native.Mathlib.Nat.{add-zero}
 use native.Mathlib.Omega.{arith}
 use lib.ListN.{length, drop, length-set}
+use Rattle.state.specs.Layout.{waitingAt}
 use borrow.Author.Needs.{needs}
 use Rattle.wire.proofs.Runs.{set-put}
 use Rattle.slots.proofs.Steps.{queued-end, lay-more}
@@ -22,17 +23,11 @@ Inv-loop s₀ stream pieces packet first waiting at count j₀ s j =
 abbrev μ-loop : tie.MeasureT-loop
 μ-loop s₀ stream pieces packet first waiting at count j₀ s j = pieces - j
 
-slice-read-size : tie.Need-slice-read-size Inv-loop μ-loop
-slice-read-size c = search needs
+first-requires : tie.Need-first-requires Inv-loop μ-loop
+first-requires c κs = search needs
 
-size-requires : tie.Need-size-requires Inv-loop μ-loop
-size-requires c κs = search needs
-
-slice-read-size-2 : tie.Need-slice-read-size-2 Inv-loop μ-loop
-slice-read-size-2 c = search needs
-
-size-requires-2 : tie.Need-size-requires-2 Inv-loop μ-loop
-size-requires-2 c κs = search needs
+waiting-requires : tie.Need-waiting-requires Inv-loop μ-loop
+waiting-requires c κs = search needs
 
 count-at-requires : tie.Need-count-at-requires Inv-loop μ-loop
 count-at-requires c κs = search needs
@@ -43,7 +38,7 @@ get16-requires c κs = search needs
 loop-holds : tie.Need-loop-holds Inv-loop μ-loop
 loop-holds c =
     let n = c .get16 .result in
-    let i = c .before .before .before .before .before .size .result + c .before .before .before .size2 .result in
+    let i = c .before .before .before .before .before .first .result + c .before .before .before .waiting .result in
     let a = c .before .before .before .before .before .before .before .before .before .args in
     let whole : a .pieces - 0 ≡ a .pieces = omega arith in (
       omega arith,
@@ -81,11 +76,10 @@ loop-less c = search needs
 loop-again : tie.Need-loop-again Inv-loop μ-loop
 loop-again c =
     let l = c .before .before .before .before .before .before .before .loop in
-    let read = c .before .before .before .before .before .before .before .before in
-    let n = read .get16 .result in
-    let waiting = read .before .before .before .size2 .result in
-    let first = read .before .before .before .before .before .size .result in
-    let a = read .before .before .before .before .before .before .before .before .before .args in
+    let n = c .before .before .before .before .before .before .before .before .get16 .result in
+    let waiting = c .before .before .before .before .before .before .before .before .before .before .before .waiting .result in
+    let first = c .before .before .before .before .before .before .before .before .before .before .before .before .before .first .result in
+    let a = c .before .before .before .before .before .before .before .before .before .before .before .before .before .before .before .before .before .args in
     let tag = c .before .before .before .before .tag-of .ensures in
     let count = c .before .before .before .before .before .size16 .ensures .0 in
     let step = lay-more (l .s) (first + waiting) n (a .stream) (a .pieces) (a .packet .now) (l .j) (omega arith) in (
@@ -120,18 +114,17 @@ unfolding laid
 returns c =
     let l = c .before .before .before .before .before .before .loop in
     let count = c .before .before .before .before .before .before .before .get16 in
-    let read = c .before .before .before .before .before .before .before .before .before in
-    let at = read .count-at in
-    let waiting = read .before .size2 in
-    let first = read .before .before .before .size in
-    let a = read .before .before .before .before .before .before .before .args in
+    let at = c .before .before .before .before .before .before .before .before .before .count-at in
+    let waiting = c .before .before .before .before .before .before .before .before .before .before .waiting in
+    let first = c .before .before .before .before .before .before .before .before .before .before .before .before .first in
+    let a = c .before .before .before .before .before .before .before .before .before .before .before .before .before .before .before .before .args in
     let more = c .before .before .before .wrapping-add-u16 in
     let none : a .pieces - l .j ≡ 0 = omega arith in
     let done :
     l .s ≡ laid (a .s .now) (first .result + waiting .result) (count .result) (a .stream) (a .pieces) (a .packet .now) =
     rw none at (l .inv .1) in
     c .before .before .set16 .ensures
-    ∙ rw (set-put (l .s) 46 (waiting .result + a .pieces) (omega arith))
+    ∙ rw (set-put (l .s) waitingAt (waiting .result + a .pieces) (omega arith))
     (queued-end (a .s .now) (a .stream) (a .pieces) (a .packet .now) (l .s) (first .result) (waiting .result) (count .result)
     (at .result) (more .result) done (first .ensures .0) (waiting .ensures .0) (count .ensures) (at .ensures .0) (more .ensures))
 
@@ -141,10 +134,8 @@ queue-pieces-spec =
     (tie.spec
     Inv-loop
     μ-loop
-    slice-read-size
-    size-requires
-    slice-read-size-2
-    size-requires-2
+    first-requires
+    waiting-requires
     count-at-requires
     get16-requires
     loop-holds

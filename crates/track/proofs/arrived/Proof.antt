@@ -1,6 +1,6 @@
 -- `track::arrived` meets its contract: each return is one case of the laws, by the tests on the way to it.
 -- Assumes nothing.
-use Rattle.track.proofs.Laws.{right-repeat, right-dropped, right-kept, right-finished}
+use Rattle.track.proofs.RightMoves.{right-repeat, right-dropped, right-kept, right-finished}
 use borrow.Author.Needs.{needs}
 use Rattle.track.proofs.arrived.Statement.{statement}
 use Rattle.track.proofs.arrived.Tie as tie

@@ -7,16 +7,16 @@ use Rattle.paper.specs.Commands.{Request, clear, housekeeping, setMode}
 use Rattle.paper.specs.Streams.{hk}
 use Rattle.paper.specs.Acts.{obeyed}
 use Rattle.state.specs.View.{view}
-use Rattle.state.specs.Range.{Fit}
+use Rattle.state.specs.Range.{Whole}
 use Rattle.machine.specs.Stores.{Free}
 use Rattle.machine.specs.Obeyed.{obeyedOn}
-use Rattle.machine.proofs.Queue.{cleared-view, cleared-fit}
+use Rattle.machine.proofs.Queue.{cleared-view}
 use Rattle.machine.proofs.Sent.{housekept-view}
-use Rattle.machine.proofs.Entries.{commanded-view, commanded-fit}
+use Rattle.machine.proofs.Entries.{commanded-view}
 
-pub obeyed-view : (s : List ℕ) (q : Request) → Fit s → (q ≡ housekeeping → Free s hk)
-    → ((v : ℕ) → q ≡ setMode v → v < 16) → (view (obeyedOn s q) ≡ obeyed (view s) q) × Fit (obeyedOn s q)
+pub obeyed-view : (s : List ℕ) (q : Request) → Whole s → (q ≡ housekeeping → Free s hk) → ((v : ℕ) → q ≡ setMode v → v < 16)
+    → view (obeyedOn s q) ≡ obeyed (view s) q
 unfolding obeyedOn obeyed
-obeyed-view s (clear mask) f room small = (cleared-view s mask f, cleared-fit s mask f)
+obeyed-view s (clear mask) f room small = cleared-view s mask f
 obeyed-view s housekeeping f room small = housekept-view s f (room refl)
-obeyed-view s (setMode value) f room small = (commanded-view s f value, commanded-fit s f value (small value refl))
+obeyed-view s (setMode value) f room small = commanded-view s f value (small value refl)

@@ -9,8 +9,8 @@ use lib.Dec.{leb, ltb, eqb}
 use lib.ListN.{length, take, drop, getD, set, length-set, drop-of-length-le}
 use lib.Seq.{drop-cons, take-suc-set, length-take-le}
 use borrow.Author.Tests.{lt-ltb, le-ltb, le-leb, lt-leb, eq-eqb, ne-eqb, leb-true, ltb-true, ltb-false}
-use Rattle.hexline.specs.Hex.{Read, bytes, faulty, front, fronts, pair, readHex, valueOf, hexOf, digitOf}
-use Rattle.hexline.specs.Lines.{longest, Line, kept, over, more, lineOf, ended, partly, scan, bytesOr, frameOf}
+use Rattle.hexline.specs.Hex.{Read, bytes, faultyText, front, bytesInFront, pair, readHex, valueOf, hexOf, digitOf}
+use Rattle.hexline.specs.Lines.{longest, LineSoFar, kept, over, more, lineOf, lineEnded, partly, scan, bytesOr, frameOfLine}
 
 -- two tests that hold together both hold
 both : (x y : Bool) → (x && y) ≡ true → (x ≡ true) × (y ≡ true)
@@ -75,13 +75,13 @@ unfolding hexOf
 hex-end s t i h = rw (drop-of-length-le s h) (append-nil t)
 
 -- nothing put in front of what a text says
-pub fronts-none : (r : Read) → fronts [] r ≡ r
+pub fronts-none : (r : Read) → bytesInFront [] r ≡ r
 fronts-none (bytes ys) = refl
-fronts-none faulty = refl
+fronts-none faultyText = refl
 
-fronts-front : (xs : List ℕ) (x : ℕ) (r : Read) → fronts xs (front x r) ≡ fronts (xs ++ (x ∷ [])) r
+fronts-front : (xs : List ℕ) (x : ℕ) (r : Read) → bytesInFront xs (front x r) ≡ bytesInFront (xs ++ (x ∷ [])) r
 fronts-front xs x (bytes ys) = ap bytes (sym (append-assoc xs (x ∷ []) ys))
-fronts-front xs x faulty = refl
+fronts-front xs x faultyText = refl
 
 -- the text from i on, by its first two characters
 read-two : (s : List ℕ) (i : ℕ) → i + 1 < length s
@@ -96,58 +96,58 @@ read-two s i h =
 
 -- a turn: two digits, and their byte stored
 pub read-step : (s out : List ℕ) (i n h l : ℕ) → i + 1 < length s → n < length out → h ≡ valueOf (getD s i 0) → l ≡ valueOf (getD s (i + 1) 0) → h < 16 → l < 16
-    → fronts (take (n + 1) (set out n (h * 16 + l))) (readHex (drop (i + 2) s)) ≡ fronts (take n out) (readHex (drop i s))
+    → bytesInFront (take (n + 1) (set out n (h * 16 + l))) (readHex (drop (i + 2) s)) ≡ bytesInFront (take n out) (readHex (drop i s))
 read-step s out i n h l a b eh el th tl =
     let p : readHex (drop i s) ≡ front (h * 16 + l) (readHex (drop (i + 2) s)) =
     read-two s i a ∙ rw (← eh, ← el, lt-ltb h 16 th, lt-ltb l 16 tl) in
-    ap (λ (t : List ℕ). fronts t (readHex (drop (i + 2) s))) (stored out n (h * 16 + l) b)
+    ap (λ (t : List ℕ). bytesInFront t (readHex (drop (i + 2) s))) (stored out n (h * 16 + l) b)
     ∙ sym (fronts-front (take n out) (h * 16 + l) (readHex (drop (i + 2) s)))
-    ∙ ap (fronts (take n out)) (sym p)
+    ∙ ap (bytesInFront (take n out)) (sym p)
 
 -- a first character that is no digit
-pub read-high : (s : List ℕ) (i h : ℕ) → i + 1 < length s → h ≡ valueOf (getD s i 0) → 16 ≤ h → readHex (drop i s) ≡ faulty
+pub read-high : (s : List ℕ) (i h : ℕ) → i + 1 < length s → h ≡ valueOf (getD s i 0) → 16 ≤ h → readHex (drop i s) ≡ faultyText
 read-high s i h a e t = read-two s i a ∙ rw (← e, le-ltb h 16 t)
 
-pair-low : (h l : ℕ) (r : Read) → 16 ≤ l → pair h l r ≡ faulty
+pair-low : (h l : ℕ) (r : Read) → 16 ≤ l → pair h l r ≡ faultyText
 pair-low h l r t = rw (le-ltb l 16 t) (both (ltb h 16))
   where
-    both : (b : Bool) → cond {A = Read} b faulty faulty ≡ faulty
+    both : (b : Bool) → cond {A = Read} b faultyText faultyText ≡ faultyText
     both true = refl
     both false = refl
 
 -- a second one that is none
-pub read-low : (s : List ℕ) (i l : ℕ) → i + 1 < length s → l ≡ valueOf (getD s (i + 1) 0) → 16 ≤ l → readHex (drop i s) ≡ faulty
+pub read-low : (s : List ℕ) (i l : ℕ) → i + 1 < length s → l ≡ valueOf (getD s (i + 1) 0) → 16 ≤ l → readHex (drop i s) ≡ faultyText
 read-low s i l a e t = read-two s i a ∙ rw (← e) (pair-low (valueOf (getD s i 0)) l (readHex (drop (i + 2) s)) t)
 
 -- one character left
-pub read-odd : (s : List ℕ) (i : ℕ) → i < length s → length s ≤ i + 1 → readHex (drop i s) ≡ faulty
+pub read-odd : (s : List ℕ) (i : ℕ) → i < length s → length s ≤ i + 1 → readHex (drop i s) ≡ faultyText
 unfolding readHex
 read-odd s i a b =
     let k : length s ≤ suc i = omega arith in
     ap readHex (drop-cons s i 0 a ∙ ap (λ (t : List ℕ). getD s i 0 ∷ t) (drop-of-length-le s k))
 
 -- none left
-pub read-end : (s out : List ℕ) (i n : ℕ) → length s ≤ i → fronts (take n out) (readHex (drop i s)) ≡ bytes (take n out)
+pub read-end : (s out : List ℕ) (i n : ℕ) → length s ≤ i → bytesInFront (take n out) (readHex (drop i s)) ≡ bytes (take n out)
 unfolding readHex
 read-end s out i n a = rw (drop-of-length-le s a) (ap bytes (append-nil (take n out)))
 
 -- the scan from i on, by its first character
-scan-one : (l : Line) (s : List ℕ) (i : ℕ) → i < length s
-    → scan l (drop i s) ≡ cond (eqb (getD s i 0) 10) (ended l (drop (i + 1) s)) (scan (more l (getD s i 0)) (drop (i + 1) s))
+scan-one : (l : LineSoFar) (s : List ℕ) (i : ℕ) → i < length s
+    → scan l (drop i s) ≡ cond (eqb (getD s i 0) 10) (lineEnded l (drop (i + 1) s)) (scan (more l (getD s i 0)) (drop (i + 1) s))
 unfolding scan
 scan-one l s i h = rw (add-one, drop-cons s i 0 h)
 
 -- at the end of the chunk
-pub scan-end : (l : Line) (s : List ℕ) (i : ℕ) → length s ≤ i → scan l (drop i s) ≡ partly l
+pub scan-end : (l : LineSoFar) (s : List ℕ) (i : ℕ) → length s ≤ i → scan l (drop i s) ≡ partly l
 unfolding scan
 scan-end l s i h = rw (drop-of-length-le s h)
 
 -- at an LF
-pub scan-ended : (l : Line) (s : List ℕ) (i : ℕ) → i < length s → getD s i 0 ≡ 10 → scan l (drop i s) ≡ ended l (drop (i + 1) s)
+pub scan-ended : (l : LineSoFar) (s : List ℕ) (i : ℕ) → i < length s → getD s i 0 ≡ 10 → scan l (drop i s) ≡ lineEnded l (drop (i + 1) s)
 scan-ended l s i h e = scan-one l s i h ∙ rw (eq-eqb (getD s i 0) 10 e)
 
 -- at any other character
-pub scan-more : (l : Line) (s : List ℕ) (i : ℕ) → i < length s → (getD s i 0 ≡ 10 → ⊥) → scan l (drop i s) ≡ scan (more l (getD s i 0)) (drop (i + 1) s)
+pub scan-more : (l : LineSoFar) (s : List ℕ) (i : ℕ) → i < length s → (getD s i 0 ≡ 10 → ⊥) → scan l (drop i s) ≡ scan (more l (getD s i 0)) (drop (i + 1) s)
 scan-more l s i h e = scan-one l s i h ∙ rw (ne-eqb (getD s i 0) 10 e)
 
 -- a character that there is room for
@@ -170,13 +170,13 @@ more-over k c line e h = by (leb k longest) refl
     by false p = refl
 
 -- a line whose text stands for bytes
-pub frame-bytes : (n k : ℕ) (line out : List ℕ) → n ≤ longest → bytes (take k out) ≡ readHex (take n line) → take k out ≡ frameOf (lineOf n line)
+pub frame-bytes : (n k : ℕ) (line out : List ℕ) → n ≤ longest → bytes (take k out) ≡ readHex (take n line) → take k out ≡ frameOfLine (lineOf n line)
 frame-bytes n k line out h e = rw (le-leb n longest h) (ap bytesOr e)
 
 -- one whose text stands for none
-pub frame-faulty : (n : ℕ) (line : List ℕ) → n ≤ longest → faulty ≡ readHex (take n line) → [] ≡ frameOf (lineOf n line)
+pub frame-faulty : (n : ℕ) (line : List ℕ) → n ≤ longest → faultyText ≡ readHex (take n line) → [] ≡ frameOfLine (lineOf n line)
 frame-faulty n line h e = rw (le-leb n longest h) (ap bytesOr e)
 
 -- one that is too long
-pub frame-over : (n : ℕ) (line : List ℕ) → longest < n → [] ≡ frameOf (lineOf n line)
+pub frame-over : (n : ℕ) (line : List ℕ) → longest < n → [] ≡ frameOfLine (lineOf n line)
 frame-over n line h = rw (lt-leb n longest h)

@@ -8,10 +8,10 @@ use native.Mathlib.Nat.{mod-lt, add-zero, zero-add, suc-add}
 use native.Mathlib.Numerals.{add-one}
 use native.Mathlib.Omega.{arith}
 use lib.Dec.{eqb}
-use lib.ListN.{length, getD, take, drop, replicate}
+use lib.ListN.{length, getD, take, drop}
 use lib.Seq.{drop-cons, drop-drop, take-nil}
-use borrow.Author.Tests.{eqb-true, eqb-false, ltb-true, lt-ltb, le-ltb, lt-leb, le-leb}
-use Rattle.wire.specs.Wire.{be16, bytes16, part, put}
+use borrow.Author.Tests.{eqb-true, eqb-false, ltb-true, lt-ltb, le-ltb}
+use Rattle.wire.specs.Wire.{be16, part, put}
 use Rattle.wire.proofs.Runs.{getD-part, length-put}
 use Rattle.paper.specs.Streams.{pieces, listed, carried}
 use Rattle.paper.specs.Status.{bit}
@@ -23,14 +23,14 @@ use Rattle.track.specs.declared.Moved.{Moved}
 use Rattle.track.specs.declared.Move.{Move}
 use Rattle.track.specs.declared.Move.the-variants.{Repeat, Dropped, Kept, Finished}
 use Rattle.track.specs.Moves.{InRange, Right}
-use Rattle.track.proofs.Laws.{right-repeat, right-dropped, right-kept, right-finished}
+use Rattle.track.proofs.RightMoves.{right-repeat, right-dropped, right-kept, right-finished}
 use Rattle.track.proofs.Only.{only}
-use Rattle.shelf.specs.Layout.{markAt, readerMark, placeAt, gatherAt, pieceAt, streams, readerBytes}
+use Rattle.shelf.specs.Layout.{readerMark, placeAt, gatherAt, pieceAt, streams, readerBytes}
 use Rattle.shelf.specs.View.{lastIn, placeIn, runsIn}
 use Rattle.shelf.specs.Range.{Fit, fit}
 use Rattle.shelf.specs.Received.{recordedOn, gathersOn, understoodOn, receivedOn, understoodTo, handsTo, readOf}
-use Rattle.shelf.specs.Fresh.{zeros, freshOn, startedOn}
-use Rattle.shelf.proofs.Ranges.{fit-true}
+use Rattle.shelf.specs.Fresh.{freshOn}
+use Rattle.lent.proofs.Fitting.{fitting-true}
 use Rattle.shelf.proofs.Packets.{long-enough}
 use Rattle.shelf.proofs.Formed.{gathersTo, movesTo, arrivesTo, arrived-formed}
 
@@ -105,12 +105,6 @@ module _ (s : List ℕ) (t : ℕ) (c : carried t ≡ true) where
 pub fresh-more : (s : List ℕ) (t : ℕ) → freshOn s (t + 1) ≡ recordedOn (freshOn s t) t 4095 (pieces t - 1) 0
 unfolding freshOn
 fresh-more s t = rw (add-one t)
-
--- zeros, the mark, then the records
-pub started-by : (s x y z : List ℕ) → x ≡ put s 0 (replicate readerBytes 0) → y ≡ put x markAt (bytes16 readerMark)
-    → z ≡ freshOn y streams → z ≡ startedOn s
-unfolding startedOn zeros
-started-by s x y z e h i = rw (i, h, e)
 
 -- ---- the stores of a move
 
@@ -210,44 +204,35 @@ module _ (s : List ℕ) (t : ℕ) (c : carried t ≡ true) (count : ℕ) (small 
 
 -- the code's tests in their order, each with what is left where it is the first that applies
 module _ (s f o : List ℕ) where
-  pub too-short : length s < readerBytes → res 25 o s ≡ readOf s f o
-  unfolding readOf fit
-  too-short h = rw (lt-leb _ _ h)
+  pub unfit : fit s ≡ false → res 25 o s ≡ readOf s f o
+  unfolding readOf
+  unfit h = rw h
 
-  module _ (w : readerBytes ≤ length s) where
-    pub no-reader : eqb (be16 s markAt) readerMark ≡ false → res 25 o s ≡ readOf s f o
-    unfolding readOf fit
-    no-reader h = rw (le-leb _ _ w, h)
+  module _ (fits : fit s ≡ true) where
+    pub a-reader : Fit s
+    a-reader = fitting-true readerBytes readerMark s fits
 
-    module _ (h : eqb (be16 s markAt) readerMark ≡ true) where
-      fits : fit s ≡ true
-      unfolding fit
-      fits = rw (le-leb _ _ w, h)
+    pub no-room : length o < 776 → res 24 o s ≡ readOf s f o
+    unfolding readOf receivedOn readerStep
+    no-room l = rw (fits, lt-ltb _ _ l)
 
-      pub a-reader : Fit s
-      a-reader = fit-true s fits
-
-      pub no-room : length o < 776 → res 24 o s ≡ readOf s f o
+    module _ (l : 776 ≤ length o) where
+      known : readOf s f o ≡ understoodTo s (packetOf f) o
       unfolding readOf receivedOn readerStep
-      no-room l = rw (fits, lt-ltb _ _ l)
+      known = rw (fits, le-ltb _ _ l)
 
-      module _ (l : 776 ≤ length o) where
-        known : readOf s f o ≡ understoodTo s (packetOf f) o
-        unfolding readOf receivedOn readerStep
-        known = rw (fits, le-ltb _ _ l)
+      pub no-packet : wellFormed f ≡ false → res 20 o s ≡ readOf s f o
+      unfolding packetOf understood understoodOn
+      no-packet e = sym (known ∙ rw e)
 
-        pub no-packet : wellFormed f ≡ false → res 20 o s ≡ readOf s f o
+      module _ (e : wellFormed f ≡ true) where
+        pub long : length f ≡ 126
+        long = long-enough f e
+
+        pub not-carried : carried (be16 f 6 % 16) ≡ false → res 21 o s ≡ readOf s f o
         unfolding packetOf understood understoodOn
-        no-packet e = sym (known ∙ rw e)
+        not-carried c = sym (known ∙ rw (e, c))
 
-        module _ (e : wellFormed f ≡ true) where
-          pub long : length f ≡ 126
-          long = long-enough f e
-
-          pub not-carried : carried (be16 f 6 % 16) ≡ false → res 21 o s ≡ readOf s f o
-          unfolding packetOf understood understoodOn
-          not-carried c = sym (known ∙ rw (e, c))
-
-          pub arrival : carried (be16 f 6 % 16) ≡ true → (r : Res) → r ≡ understoodTo s (packet (be16 f 6 % 16) (be16 f 6 / 16) (drop 8 f)) o → r ≡ readOf s f o
-          unfolding packetOf
-          arrival c r q = q ∙ sym (known ∙ rw (e, c))
+        pub arrival : carried (be16 f 6 % 16) ≡ true → (r : Res) → r ≡ understoodTo s (packet (be16 f 6 % 16) (be16 f 6 / 16) (drop 8 f)) o → r ≡ readOf s f o
+        unfolding packetOf
+        arrival c r q = q ∙ sym (known ∙ rw (e, c))

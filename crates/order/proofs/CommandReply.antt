@@ -6,18 +6,17 @@ use mathlib.Core.List.{List}
 use Prim.Native.Nat.{ℕ}
 use borrow.Author.Tests.{eqb-true, eqb-false, ne-eqb}
 use lib.Dec.{eqb, ltb}
-use lib.ListN.{length, getD}
+use lib.ListN.{length}
 use Rattle.wire.specs.Wire.{be16}
 use Rattle.paper.specs.Frames.{Channel, Frame, command}
 use Rattle.paper.specs.Commands.{Request, clear, housekeeping, setMode, Decoded, request, refusal, outside, decoded}
 use Rattle.paper.specs.Streams.{hk}
 use Rattle.paper.specs.Step.{holds, crowded, queues, isError, reply}
-use Rattle.state.specs.Layout.{waitingAt}
-use Rattle.state.specs.View.{view}
+use Rattle.state.specs.View.{waitingIn, view}
 use Rattle.lent.specs.Told.{told}
 use Rattle.paper.specs.Controller.{Controller}
 use Rattle.paper.specs.Acts.{noted}
-use Rattle.state.specs.Range.{Fit}
+use Rattle.state.specs.Range.{Whole}
 use Rattle.machine.specs.Obeyed.{notedOn, erredOn, performedOn}
 use Rattle.machine.specs.Called.{actedOn, refusedOn, leftOn, toldOn}
 use Rattle.machine.proofs.Queue.{queue-length}
@@ -102,7 +101,7 @@ module _ (s : List ℕ) (cc : Channel) (id sequence : ℕ) (parameters : List �
   takes q e t = rw (reply-by (request q) e, t)
 
 -- noting a command leaves how many pieces wait
-pub noted-waits : (s : List ℕ) → Fit s → (cc : Channel) (id sequence : ℕ) → getD (notedOn s cc id sequence) waitingAt 0 ≡ getD s waitingAt 0
+pub noted-waits : (s : List ℕ) → Whole s → (cc : Channel) (id sequence : ℕ) → waitingIn (notedOn s cc id sequence) ≡ waitingIn s
 unfolding noted
 noted-waits s f cc id sequence =
     sym (queue-length (notedOn s cc id sequence))

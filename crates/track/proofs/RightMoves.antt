@@ -12,7 +12,7 @@ use Rattle.track.specs.declared.Track.{Track}
 use Rattle.track.specs.declared.Moved.{Moved}
 use Rattle.track.specs.declared.Move.{Move}
 use Rattle.track.specs.declared.Move.the-variants.{Repeat, Dropped, Kept, Finished}
-use Rattle.track.specs.Moves.{tracked, with, meant, InRange, Right}
+use Rattle.track.specs.Moves.{tracked, withPiece, meant, InRange, Right}
 
 -- a move with the record that it leaves, as the code's `leaves` gives it
 abbrev pub left : Move → ℕ → ℕ → Bool → Moved
@@ -22,13 +22,13 @@ left step last place running = record { track = record { last = last; place = pl
 
 module _ {A : Type 0} (count place : ℕ) (g : List A) (x : A) where
   pub moves-kept : (anew goesOn : Bool) → (anew || goesOn) ≡ true
-      → moves anew goesOn false count place g x ≡ taken (record { last = count; place = place; running = true; gathered = with anew g x })
+      → moves anew goesOn false count place g x ≡ taken (record { last = count; place = place; running = true; gathered = withPiece anew g x })
   moves-kept true goesOn e = refl
   moves-kept false true e = refl
   moves-kept false false e = cc
 
   pub moves-finished : (anew goesOn : Bool) → (anew || goesOn) ≡ true
-      → moves anew goesOn true count place g x ≡ finished (record { last = count; place = place; running = false; gathered = [] }) (with anew g x)
+      → moves anew goesOn true count place g x ≡ finished (record { last = count; place = place; running = false; gathered = [] }) (withPiece anew g x)
   moves-finished true goesOn e = refl
   moves-finished false true e = refl
   moves-finished false false e = cc

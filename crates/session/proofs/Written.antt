@@ -5,32 +5,32 @@ use Prim.Native.Nat.{ℕ, _+_, _/_, _%_, _<_}
 use native.Mathlib.Omega.{arith}
 use lib.ListN.{length, take, set}
 use Rattle.hexline.specs.Hex.{hexOf, digitOf, decimalOf}
-use Rattle.hexline.proofs.Laws.{stored, stored-two}
+use Rattle.hexline.proofs.HexLines.{stored, stored-two}
 use Rattle.lent.specs.Told.{Res}
 use Rattle.shelf.specs.Received.{readOf}
 use Rattle.shelf.proofs.Replies.{Told, replies}
-use Rattle.session.specs.Bench.{written}
+use Rattle.session.specs.Bench.{bytesWritten}
 use Rattle.session.specs.Reader.{spaced, lineFor}
 
 -- an empty frame wrote nothing
-pub none-written : (f : List ℕ) → length f ≡ 0 → 0 ≡ written 0 f
-unfolding written
+pub none-written : (f : List ℕ) → length f ≡ 0 → 0 ≡ bytesWritten 0 f
+unfolding bytesWritten
 none-written [] e = refl
 none-written (x ∷ f) e = absurd (omega arith)
 
 -- a line's three parts: the reply's two digits h and l, the text of the bytes b, and the LF
-pub put : (reply : ℕ) (b out out′ : List ℕ) (at r h l : ℕ) → h ≡ digitOf (reply / 16) → l ≡ digitOf (reply % 16)
+pub put-line : (reply : ℕ) (b out out′ : List ℕ) (at r h l : ℕ) → h ≡ digitOf (reply / 16) → l ≡ digitOf (reply % 16)
     → take r out′ ≡ take (at + 2) (set (set out at h) (at + 1) l) ++ hexOf b → r < length out′ → at + 1 < length out
     → take (r + 1) (set out′ r 10) ≡ take at out ++ (hexOf (reply ∷ b) ++ (10 ∷ []))
 unfolding hexOf
-put reply b out out′ at r h l eh el e k m =
+put-line reply b out out′ at r h l eh el e k m =
     stored out′ r 10 k
     ∙ ap (λ (t : List ℕ). t ++ (10 ∷ [])) (e ∙ ap (λ (t : List ℕ). t ++ hexOf b) (stored-two out at h l m))
     ∙ rw (eh, el) (simp append-assoc)
 
 -- what a call of the reader replies
-pub told : (s f o : List ℕ) (r : Res) → r ≡ readOf s f o → Told (r .reply) f
-told s f o r e = subst (λ (x : Res). Told (x .reply) f) (sym e) (replies s f o)
+pub replied : (s f o : List ℕ) (r : Res) → r ≡ readOf s f o → Told (r .reply) f
+replied s f o r e = subst (λ (x : Res). Told (x .reply) f) (sym e) (replies s f o)
 
 -- where nothing is handed out nothing is appended
 pub none-spaced : (t b : List ℕ) → length b ≡ 0 → t ≡ t ++ spaced b

@@ -14,7 +14,7 @@ use lib.ListN.{length, length-append, getD, drop}
 use borrow.Author.Tests.{eqb-true, eqb-false, eq-eqb, ltb-true}
 use Rattle.paper.specs.Streams.{pieces}
 use Rattle.paper.specs.Packets.{cut}
-use Rattle.paper.specs.Queue.{Piece, piece, numbered, after, put}
+use Rattle.paper.specs.Queue.{Piece, piece, numbered, after, replaced}
 use Rattle.paper.specs.History.{numberedAll}
 use Rattle.delivery.specs.Polls.{Polled}
 use Rattle.delivery.specs.Chosen.{Arrival, own, strange, ownOf, arrived}
@@ -151,12 +151,12 @@ orderly-repeats pre q (some p) ys h f g = inl (h, g p)
 
 orderly : (fates : List Fate) (last : ℕ → Option Polled) (ps : List Polled) (q : List (Piece (List ℕ))) (pre : List Arrival) → Later pre ps q
     → ((t : ℕ) → SeenAt pre (last t)) → Orderly pre q (arrivalsFrom last ps fates)
-unfolding arrivalsFrom put
+unfolding arrivalsFrom replaced
 orderly [] last ps q pre h m = tt
 orderly (lost ∷ fs) last [] q pre h m = orderly fs last [] q pre h m
 orderly (lost ∷ fs) last (p ∷ ps) q pre h m = orderly fs last ps q pre (later-tail pre p ps q h) m
 orderly (came ∷ fs) last [] q pre h m = orderly fs last [] q pre h m
-orderly (came ∷ fs) last (p ∷ ps) q pre h m = by h (λ r k. orderly fs (put last (p .stream) (some p)) ps r next k (λ t. at t (eqb (p .stream) t)))
+orderly (came ∷ fs) last (p ∷ ps) q pre h m = by h (λ r k. orderly fs (replaced last (p .stream) (some p)) ps r next k (λ t. at t (eqb (p .stream) t)))
   where
     next : List Arrival
     next = pre ++ (own p ∷ [])
@@ -166,7 +166,7 @@ orderly (came ∷ fs) last (p ∷ ps) q pre h m = by h (λ r k. orderly fs (put 
     at t false = seen-more pre (own p ∷ []) (last t) (m t)
 
     arrivals : List Arrival
-    arrivals = arrivalsFrom (put last (p .stream) (some p)) ps fs
+    arrivals = arrivalsFrom (replaced last (p .stream) (some p)) ps fs
 
     by : Later pre (p ∷ ps) q → ((r : List (Piece (List ℕ))) → Later next ps r → Orderly next r arrivals)
         → (In (p .number) (arrived (p .stream) pre) × Orderly next q arrivals)
@@ -189,18 +189,18 @@ orderly (noise f ∷ fs) last ps q pre h m =
 -- of each stream t, numbers from F t on, rising
 abbrev Above : (ℕ → ℕ) → List (Piece (List ℕ)) → Type 0
 Above F [] = Unit {0}
-Above F (z ∷ q) = (F (z .stream) ≤ z .count) × Above (put F (z .stream) (suc (z .count))) q
+Above F (z ∷ q) = (F (z .stream) ≤ z .count) × Above (replaced F (z .stream) (suc (z .count))) q
 
 abbrev bound : (ℕ → ℕ) → List (Piece (List ℕ)) → ℕ → ℕ
 bound F [] = F
-bound F (z ∷ q) = bound (put F (z .stream) (suc (z .count))) q
+bound F (z ∷ q) = bound (replaced F (z .stream) (suc (z .count))) q
 
 above-back : (X : List (Piece (List ℕ))) (F : ℕ → ℕ) (Y : List (Piece (List ℕ))) → Above F (X ++ Y) → Above (bound F X) Y
 above-back [] F Y h = h
-above-back (z ∷ X) F Y h = above-back X (put F (z .stream) (suc (z .count))) Y (h .1)
+above-back (z ∷ X) F Y h = above-back X (replaced F (z .stream) (suc (z .count))) Y (h .1)
 
-put-above : (F : ℕ → ℕ) (s n t : ℕ) → F s ≤ n → F t ≤ put F s (suc n) t
-unfolding put
+put-above : (F : ℕ → ℕ) (s n t : ℕ) → F s ≤ n → F t ≤ replaced F s (suc n) t
+unfolding replaced
 put-above F s n t h = at (eqb s t) refl
   where
     at : (b : Bool) → eqb s t ≡ b → F t ≤ cond b (suc n) (F t)
@@ -212,7 +212,7 @@ above-ge : (X : List (Piece (List ℕ))) (F : ℕ → ℕ) (z : Piece (List ℕ)
     → F (z .stream) ≤ z .count
 above-ge [] F z Y h = h .0
 above-ge (v ∷ X) F z Y h =
-    omega (arith, put-above F (v .stream) (v .count) (z .stream) (h .0), above-ge X (put F (v .stream) (suc (v .count))) z Y (h .1))
+    omega (arith, put-above F (v .stream) (v .count) (z .stream) (h .0), above-ge X (replaced F (v .stream) (suc (v .count))) z Y (h .1))
 
 -- all numbers that arrived are below
 abbrev Bounded : (ℕ → ℕ) → List Arrival → Type 0
@@ -222,18 +222,18 @@ bounded-on : (X : List (Piece (List ℕ))) (F : ℕ → ℕ) (Y : List (Piece (L
     → Bounded (bound F X) pre
 bounded-on [] F Y pre h b = b
 bounded-on (z ∷ X) F Y pre h b =
-    bounded-on X (put F (z .stream) (suc (z .count))) Y pre (h .1)
+    bounded-on X (replaced F (z .stream) (suc (z .count))) Y pre (h .1)
     (λ t n i. omega (arith, b t n i, put-above F (z .stream) (z .count) t (h .0)))
 
 above-block : (s n : ℕ) (xs : List (List ℕ)) (F : ℕ → ℕ) (T : List (Piece (List ℕ))) → F s ≤ n
     → ((G : ℕ → ℕ) → G s ≤ after suc n xs → ((t : ℕ) → eqb s t ≡ false → G t ≤ F t) → Above G T) → Above F (numbered suc s n xs ++ T)
-unfolding numbered after put
+unfolding numbered after replaced
 above-block s n [] F T h k = k F h (λ t e. omega arith)
 above-block s n (x ∷ xs) F T h k =
-    (h, above-block s (suc n) xs (put F s (suc n)) T (rw (eq-eqb s s refl) (omega arith)) (λ G a b. k G a (λ t e. rw e at (b t e))))
+    (h, above-block s (suc n) xs (replaced F s (suc n)) T (rw (eq-eqb s s refl) (omega arith)) (λ G a b. k G a (λ t e. rw e at (b t e))))
 
 above-all : (ps : List (ℕ × List ℕ)) (N F : ℕ → ℕ) → ((t : ℕ) → F t ≤ N t) → Above F (numberedAll suc N ps)
-unfolding numberedAll put
+unfolding numberedAll replaced
 above-all [] N F h = tt
 above-all (p ∷ ps) N F h =
     above-block (p .0) (N (p .0)) xs F _ (h (p .0)) (λ G a b. above-all ps _ G (λ t. at G a b t (eqb (p .0) t) refl))
@@ -267,7 +267,7 @@ complete-same : (pre post : List Arrival) → ((t n : ℕ) → In n (arrived t p
 unfolding complete
 complete-same pre post f g [] N = refl
 complete-same pre post f g (p ∷ ps) N =
-    let rest = complete-same pre post f g ps (put N (p .0) (N (p .0) + pieces (p .0))) in
+    let rest = complete-same pre post f g ps (replaced N (p .0) (N (p .0) + pieces (p .0))) in
     let same : allAmong (pieces (p .0)) (N (p .0)) (arrived (p .0) post) ≡ allAmong (pieces (p .0)) (N (p .0)) (arrived (p .0) pre) =
     all-same (pieces (p .0)) (N (p .0)) (arrived (p .0) pre) (arrived (p .0) post) (f (p .0)) (λ j l. g (p .0) (N (p .0) + j)) in
     rw (same, rest)
@@ -333,21 +333,21 @@ nothing (p ∷ ps) N F U pre w h b =
     (λ e. absurd (false≢true e)) in
     let moved : N s + pieces s ≡ after suc (N s) xs = sym (after-suc (N s) xs ∙ ap (λ (m : ℕ). N s + m) long) in
     rw (out, moved)
-    (nothing ps (put N s (after suc (N s) xs)) F (U ++ numbered suc s (N s) xs) pre (w .1)
-    (rw (append-assoc U (numbered suc s (N s) xs) (numberedAll suc (put N s (after suc (N s) xs)) ps)) h) b)
+    (nothing ps (replaced N s (after suc (N s) xs)) F (U ++ numbered suc s (N s) xs) pre (w .1)
+    (rw (append-assoc U (numbered suc s (N s) xs) (numberedAll suc (replaced N s (after suc (N s) xs)) ps)) h) b)
 
 -- one arrival that is no repeat: z is its piece, and no piece from z on has arrived before
 module _ (pre : List Arrival) (p : Polled) (z : Piece (List ℕ)) (Y : List (Piece (List ℕ))) (G : ℕ → ℕ) (stream : z .stream ≡ p .stream)
     (count : z .count ≡ p .number) (above : Above G (z ∷ Y)) (bounded : Bounded G pre) where
-  bounded-post : Bounded (put G (z .stream) (suc (z .count))) (pre ++ (own p ∷ []))
-  unfolding put
+  bounded-post : Bounded (replaced G (z .stream) (suc (z .count))) (pre ++ (own p ∷ []))
+  unfolding replaced
   bounded-post t n i = by (in-less t n pre p i)
     where
       new : (b : Bool) → eqb (z .stream) t ≡ b → (p .stream ≡ t) × (n ≡ p .number) → n < cond b (suc (z .count)) (G t)
       new true e h = omega (arith, h .1)
       new false e h = absurd (eqb-false (z .stream) t e (stream ∙ h .0))
 
-      by : In n (arrived t pre) ⊎ ((p .stream ≡ t) × (n ≡ p .number)) → n < put G (z .stream) (suc (z .count)) t
+      by : In n (arrived t pre) ⊎ ((p .stream ≡ t) × (n ≡ p .number)) → n < replaced G (z .stream) (suc (z .count)) t
       by (inl h) = omega (arith, bounded t n h, put-above G (z .stream) (z .count) t (above .0))
       by (inr h) = new (eqb (z .stream) t) refl h
 
@@ -355,11 +355,11 @@ module _ (pre : List Arrival) (p : Polled) (z : Piece (List ℕ)) (Y : List (Pie
   Grows N ps = (D : List (ℕ × List ℕ)) × (complete N (pre ++ (own p ∷ [])) ps ≡ complete N pre ps ++ D)
 
   grows : (ps : List (ℕ × List ℕ)) (N : ℕ → ℕ) (X : List (Piece (List ℕ))) → Wholes ps → numberedAll suc N ps ≡ X ++ (z ∷ Y) → Grows N ps
-  unfolding complete numberedAll put
+  unfolding complete numberedAll replaced
   grows [] N X w e = absurd (omega (arith, ap length e, length-append X (z ∷ Y)))
   grows (q ∷ ps) N X w e =
       by (where-is (numbered suc (q .0) (N (q .0)) (cut (pieces (q .0)) (q .1))) _ X z Y e)
-      (λ X′ k. grows ps (put N (q .0) (after suc (N (q .0)) (cut (pieces (q .0)) (q .1)))) X′ (w .1) k)
+      (λ X′ k. grows ps (replaced N (q .0) (after suc (N (q .0)) (cut (pieces (q .0)) (q .1)))) X′ (w .1) k)
     where
       s : ℕ
       s = q .0
@@ -368,7 +368,7 @@ module _ (pre : List Arrival) (p : Polled) (z : Piece (List ℕ)) (Y : List (Pie
       xs = cut (pieces (q .0)) (q .1)
 
       M : ℕ → ℕ
-      M = put N (q .0) (after suc (N (q .0)) (cut (pieces (q .0)) (q .1)))
+      M = replaced N (q .0) (after suc (N (q .0)) (cut (pieces (q .0)) (q .1)))
 
       moved : N (q .0) + pieces (q .0) ≡ after suc (N (q .0)) (cut (pieces (q .0)) (q .1))
       moved = sym (after-suc (N (q .0)) xs ∙ ap (λ (m : ℕ). N (q .0) + m) (length-cut (pieces (q .0)) (q .1)))
@@ -411,7 +411,7 @@ module _ (pre : List Arrival) (p : Polled) (z : Piece (List ℕ)) (Y : List (Pie
           let all : Above G (z ∷ (h .0 ++ numberedAll suc M ps)) = subst (λ (l : List (Piece (List ℕ))). Above G (z ∷ l)) (h .2) above in
           let none-pre : complete M pre ps ≡ [] = nothing ps M G (z ∷ h .0) pre (w .1) all bounded in
           let none-post : complete M (pre ++ (own p ∷ [])) ps ≡ [] =
-          nothing ps M (put G (z .stream) (suc (z .count))) (h .0) (pre ++ (own p ∷ [])) (w .1) (all .1) bounded-post in
+          nothing ps M (replaced G (z .stream) (suc (z .count))) (h .0) (pre ++ (own p ∷ [])) (w .1) (all .1) bounded-post in
           let missing : whole pre ≡ false =
           same-bool (whole pre) false
           (λ e. absurd (gone spot (all-in (pieces (q .0)) (N (q .0)) (arrived (q .0) pre) e)))
@@ -493,7 +493,7 @@ advance sent w pre (own p) ys k = by (k .goes)
           record {
             passed = (k .passed ++ X) ++ (z ∷ []);
             coming = Y;
-            bounds = put G (z .stream) (suc (z .count));
+            bounds = replaced G (z .stream) (suc (z .count));
             split = all ∙ sym (append-assoc (k .passed ++ X) (z ∷ []) Y);
             above = here .1;
             below = bounded-post pre p z Y G (h .3 .1) (h .3 .2) here low;
