@@ -2,17 +2,17 @@
 -- one that the reader takes for what it is.
 -- Assumes nothing.
 use mathlib.Core.Path.{_≡_, refl, sym, ap, _∙_, subst}
-use mathlib.Core.Bool.{Bool, true, false, cond, _||_}
+use mathlib.Core.Bool.{Bool, true, false, cond}
 use mathlib.Core.List.{List, [], _∷_, _++_, map}
 use Prim.Native.Nat.{ℕ, suc, _+_, _-_, _*_, _/_, _<_}
 use native.Mathlib.Nat.{zero-mul, suc-mul}
 use native.Mathlib.Omega.{arith}
-use lib.Dec.{T, eqb, ltb, eqb→eq}
+use lib.Dec.{eqb}
 use lib.ListN.{length, getD, length-append, length-map}
 use lib.Seq.{getD-append-add}
 use borrow.Author.Tests.{eqb-true, not-false}
 use Rattle.wire.specs.Wire.{be16}
-use Rattle.paper.specs.Frames.{Channel, Frame, broadcast, command, tick, sample, poll, status, analogue, faulty, frameOf}
+use Rattle.paper.specs.Frames.{Frame, broadcast, command, tick, sample, poll, status, analogue, faulty, frameOf}
 use Rattle.paper.specs.Impact.{Impact, Stamp}
 use Rattle.paper.specs.Commands.{names, decoded}
 use Rattle.paper.specs.Streams.{Form, ofBytes, of12Bits, rowOf, acc-i, hk, pieces, listed, perPacket, width, form, carried, hasSamples}
@@ -20,9 +20,8 @@ use Rattle.paper.specs.Packets.{pack, joined, made, dataOf, opening, closing, h
 use Rattle.paper.specs.Queue.{Piece, wrap, numbered, after, replaced}
 use Rattle.paper.specs.Controller.{Controller, start, stampNow}
 use Rattle.paper.specs.Housekeeping.{housekeepingData, housekeepingPacket}
-use Rattle.paper.specs.Acts.{completes, withReading, impactPacket, joinedBy, closes, noted, pollOutputFrom, answer}
-use Rattle.paper.specs.Step.{holds, queues, reply, replied, step}
-use Rattle.paper.specs.Reader.{packet, packetOf}
+use Rattle.paper.specs.Acts.{completes, withReading, impactPacket, joinedBy, closes, noted}
+use Rattle.paper.specs.Step.{queues, reply, step}
 use Rattle.paper.specs.Runs.{Call, runs}
 use Rattle.paper.specs.History.{isAccepted, fullPacket, onlyIf, sent, sentAt, sentBy, countsAfter, numberedAll, Takes, nothing, theFirst, named, leaves, takesAt}
 use Rattle.paper.proofs.Packets.{length-pack}
@@ -31,7 +30,7 @@ use Rattle.paper.proofs.Table.{sampled-carried, bytes-fill, Paired, values-fill
 use Rattle.paper.proofs.Refusals.{Passed, passed, reply-is}
 use Rattle.paper.proofs.History.{queues-step}
 use Rattle.paper.proofs.Kept.{Full, full-cut}
-use Rattle.delivery.proofs.Whole.{Whole, Ready, polled-parse}
+use Rattle.delivery.proofs.Whole.{Whole, Ready}
 use Rattle.delivery.proofs.Sizes.{Each, Sizes, taken-ring, sizes-start, sizes-step}
 
 -- ---- sizes of what packets are made of
@@ -209,12 +208,3 @@ waits-fresh xs = waits-runs xs start sizes-start waits-start
 
 pub queue-pieces : (xs : List Call) → Readies (runs start xs .streams .queue)
 queue-pieces xs = waits-fresh xs .ready
-
--- An accepted poll writes the first piece that waits, and the reader finds it there.
-pub poll-tells : (c : Controller) (x : Call) (cc : Channel) (p : Piece (List ℕ)) (rest : List (Piece (List ℕ))) → Waits c
-    → frameOf (x .bytes) ≡ poll cc → c .streams .queue ≡ p ∷ rest → step c (x .bytes) (x .room) .reply ≡ 0
-    → packetOf (step c (x .bytes) (x .room) .out) ≡ packet (p .stream) (p .count) (p .body)
-unfolding step replied answer pollOutputFrom
-poll-tells c x cc p rest w f q e =
-    let r : reply (holds c) (frameOf (x .bytes)) (x .room) ≡ 0 = sym (reply-is c (x .bytes) (x .room)) ∙ e in
-    rw (r, f, q) (polled-parse cc (c .tallies .telemetry) p ((rw q at (w .ready)) .0))

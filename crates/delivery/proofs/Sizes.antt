@@ -198,7 +198,3 @@ pub sizes-runs : (xs : List Call) (c : Controller) → Sizes c → Sizes (runs c
 unfolding runs
 sizes-runs [] c k = k
 sizes-runs (x ∷ xs) c k = sizes-runs xs (step c (x .bytes) (x .room) .next) (sizes-step c x k)
-
--- after any calls from a fresh start
-pub sizes-fresh : (xs : List Call) → Sizes (runs start xs)
-sizes-fresh xs = sizes-runs xs start sizes-start

@@ -20,8 +20,6 @@ use Rattle.paper.specs.Acts.{pollOutput}
 use Rattle.paper.specs.Reader.{packet, wellFormed, packetOf, all99, sound}
 use Rattle.paper.proofs.Packets.{joined-chunks}
 use Rattle.paper.proofs.Table.{carried-small, carried-rules}
-use Rattle.paper.proofs.Kept.{Full, full-cut}
-use Rattle.paper.proofs.History.{length-cut}
 
 -- "A datastream packet opens with the two bytes 88 88 and closes with 99 99", at its stream's listed length.
 abbrev pub Whole : ℕ → List ℕ → Type 0
@@ -68,13 +66,6 @@ module _ (s : ℕ) (x : List ℕ) (w : Whole s x) where
       (and-true (keeps (listed s - 2) 0x99 (omega arith) (w .4))
       (and-true (keeps (listed s - 2 + 1) 0x99 (omega arith) (ap (λ n. getD x n 0) (let z : listed s - 2 + 1 ≡ listed s - 1 = omega arith in z) ∙ w .5)) refl))
       (ap all99 (drop-at x fill (listed s) (w .1)) ∙ all-99 (pieces s * 118 - length x))))
-
--- any packet is cut into its stream's pieces of 118 bytes
-pub whole-pieces : (s : ℕ) (x : List ℕ) → length (cut (pieces s) x) ≡ pieces s
-whole-pieces s x = length-cut (pieces s) x
-
-pub whole-full : (s : ℕ) (x : List ℕ) → Full (cut (pieces s) x)
-whole-full s x = full-cut (pieces s) x
 
 -- ---- a poll's bytes
 

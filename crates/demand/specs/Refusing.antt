@@ -21,7 +21,7 @@ use Rattle.paper.specs.Reader.{Track, distance, placed, Reader, readerStart, re
 use Rattle.state.specs.Layout.{stateBytes}
 use Rattle.state.specs.View.{view}
 use Rattle.state.specs.Range.{fit}
-use Rattle.lent.specs.Told.{Told, told, Res, res}
+use Rattle.lent.specs.Told.{Told, told, res}
 use Rattle.lent.specs.Calls.{Framed}
 use Rattle.machine.specs.Called.{stepOf, startOf}
 use Rattle.machine.specs.Runs.{runOf}

@@ -8,13 +8,9 @@ use native.Mathlib.Omega.{arith}
 use lib.Dec.{eqb}
 use lib.Count.{ones, ones-step}
 use Rattle.paper.specs.Status.{bit, bitOf}
-use Rattle.paper.specs.Impact.{noComparison, compared, ones as onesOf}
+use Rattle.paper.specs.Impact.{compared, ones as onesOf}
 use Rattle.paper.proofs.Labels.{bit-le, bit-back}
 use Rattle.impact.specs.Window.{windowOf, windowAfter}
-
--- zero is the window of which every comparison is missing
-pub windowOf-zero : windowOf 0 ≡ noComparison
-windowOf-zero = refl
 
 -- an even number more does not change the lowest bit
 lowest : (x q d : ℕ) → x ≡ 2 * q + d → d % 2 ≡ x % 2

@@ -17,9 +17,9 @@ use Rattle.wire.specs.Wire.{be16, bytes16, part, put}
 use Rattle.wire.proofs.Runs.{length-part, length-put, getD-put-inside, be16-put-same}
 use Rattle.paper.specs.Commands.{names}
 use Rattle.paper.specs.Streams.{pieces}
-use Rattle.paper.specs.Packets.{chunks, cut}
+use Rattle.paper.specs.Packets.{chunks}
 use Rattle.paper.specs.Queue.{Piece, piece, wrap, numbered, after, without}
-use Rattle.paper.specs.Controller.{nothingOpen, withQueue, withStreams, queued}
+use Rattle.paper.specs.Controller.{nothingOpen, withQueue, withStreams}
 use Rattle.paper.specs.Acts.{cleared}
 use Rattle.paper.specs.Queue as paper
 use Rattle.state.specs.Layout.{firstAt, waitingAt, housedAt, streams, countAt, openAt, ringAt, slotsAt, slotAt, stateBytes}
@@ -200,13 +200,6 @@ module _ (s : List ℕ) (t k : ℕ) (x : List ℕ) (fit : Whole s) (known : t < 
       (same-within ringAt slotsAt (q .above) (omega arith) (omega arith))
       ∙ (λ i. withStreams (view s) (record { opened = opened i; counts = queued-counts i; queue = queued-queue i }))
 
--- the paper's packet of a stream, where the bytes lent are its pieces
-pub queued-packet : (s : List ℕ) (t : ℕ) (p x : List ℕ) → Whole s → t < streams → waitingIn s + pieces t ≤ 48
-    → 118 * pieces t ≤ length p → chunks 118 (pieces t) p ≡ cut (pieces t) x
-    → view (queuedOn s t (pieces t) p) ≡ queued (view s) t x
-unfolding queued
-queued-packet s t p x fit known room long e = queued-view s t (pieces t) p fit known room long ∙ rw e
-
 -- ---- the first piece leaves
 
 pub queue-length : (s : List ℕ) → length (view s .streams .queue) ≡ waitingIn s
@@ -228,13 +221,6 @@ pub some-waits : (s : List ℕ) (p : Piece (List ℕ)) (rest : List (Piece (List
 some-waits s p rest e =
     let l : waitingIn s ≡ suc (length rest) = sym (queue-length s) ∙ ap length e in
     omega arith
-
--- so it is the piece in the first slot
-pub first-piece : (s : List ℕ) → Whole s → (p : Piece (List ℕ)) (rest : List (Piece (List ℕ))) → view s .streams .queue ≡ p ∷ rest
-    → p ≡ pieceIn s (firstIn s)
-first-piece s fit p rest e =
-    let f = waits-first s fit (some-waits s p rest e) in
-    cc
 
 module _ (s : List ℕ) (fit : Whole s) where
   -- the two bytes

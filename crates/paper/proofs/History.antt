@@ -2,7 +2,7 @@
 -- accepted frame queues do to queue and counts.
 -- Assumes nothing.
 use mathlib.Core.Path.{_≡_, refl, sym, ap, _∙_}
-use mathlib.Core.Bool.{Bool, true, false, cond, not, _&&_, _||_}
+use mathlib.Core.Bool.{Bool, true, false, cond, _&&_, _||_}
 use mathlib.Core.List.{List, [], _∷_, _++_, append-nil, append-assoc}
 use Prim.Native.Nat.{ℕ, zero, suc, _+_, _%_}
 use native.Mathlib.Omega.{arith}
@@ -22,7 +22,7 @@ use Rattle.paper.specs.Housekeeping.{housekeepingPacket}
 use Rattle.paper.specs.Acts.{enter, heard, moved, mRaised, inProximity, last, completes, withReading, watching, ended, impactPacket, completed, ticks, joinedBy, closes, closed, keptOpen, sampled, noted, cleared, commanded, obeyed, pollAnswered, performed, pollAnsweredFrom, accepted, answer}
 use Rattle.paper.specs.Step.{holds, queues, reply, lateHeard, erred, isError, Count, ofBroadcasts, ofCommands, ofPolls, ofNone, countOf, unchanged, lateOn, errorOn, change, changed, refused, Outcome, outcome, replied, step}
 use Rattle.paper.specs.Runs.{Call, runs}
-use Rattle.paper.specs.History.{Counted, history, howMany, sameChannel, broadcastsOn, packetsOn, commandsIn, pollsOn, errorsIn, isAccepted, raisesBroadcasts, raisesPackets, raisesCommands, raisesTelemetry, raisesErrors, fullPacket, onlyIf, sent, sentAt, sentBy, piecesOf, countsAfter, numberedAll, Takes, nothing, theFirst, named, commandTakes, takes, leaves, takesAt}
+use Rattle.paper.specs.History.{Counted, history, howMany, sameChannel, isAccepted, raisesBroadcasts, raisesPackets, raisesCommands, raisesTelemetry, raisesErrors, fullPacket, onlyIf, sent, sentAt, sentBy, piecesOf, countsAfter, numberedAll, Takes, nothing, theFirst, named, commandTakes, takes, leaves, takesAt}
 use Rattle.paper.proofs.Refusals.{Clear, passed, refused-any}
 
 -- ---- what packets do to queue and counts
@@ -145,28 +145,6 @@ queues-accepted c (poll cc) = queues-polled c cc (c .streams .queue) refl
 queues-accepted c (status cc low flags) = queues-none c c nothing refl refl
 queues-accepted c (analogue bytes) = queues-none c (accepted c (analogue bytes)) nothing refl refl
 queues-accepted c faulty = queues-none c c nothing refl refl
-
--- a poll: the first piece is gone
-pub poll-queue : (c : Controller) (cc : Channel) → accepted c (poll cc) .streams .queue ≡ drop 1 (c .streams .queue)
-unfolding numberedAll sent
-poll-queue c cc = queues-accepted c (poll cc) .queue ∙ ap (drop 1) (append-nil (c .streams .queue))
-
-pub poll-counts : (c : Controller) (cc : Channel) → accepted c (poll cc) .streams .counts ≡ c .streams .counts
-unfolding countsAfter sent
-poll-counts c cc = queues-accepted c (poll cc) .counts
-
--- a clear: "waiting pieces of named streams go, the rest keep their order", "cleared pieces have used theirs"
-pub clear-queue : (c : Controller) (cc : Channel) (id sequence mask : ℕ) (parameters : List ℕ)
-    → decoded id parameters ≡ request (clear mask)
-    → accepted c (command cc id sequence parameters) .streams .queue ≡ without (names mask) (c .streams .queue)
-unfolding accepted performed obeyed cleared noted
-clear-queue c cc id sequence mask parameters e = rw e
-
-pub clear-counts : (c : Controller) (cc : Channel) (id sequence mask : ℕ) (parameters : List ℕ)
-    → decoded id parameters ≡ request (clear mask)
-    → accepted c (command cc id sequence parameters) .streams .counts ≡ c .streams .counts
-unfolding accepted performed obeyed cleared noted
-clear-counts c cc id sequence mask parameters e = rw e
 
 -- a refusal queues nothing and takes nothing away
 pub queues-refused : (n : ℕ) (f : Frame) (c : Controller) → Queues c (refused n f c) nothing []

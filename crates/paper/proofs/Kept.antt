@@ -2,26 +2,25 @@
 -- only in mode 4. From it, what accepted calls write.
 -- Assumes nothing.
 use mathlib.Core.Path.{_≡_, refl, sym, ap, _∙_}
-use mathlib.Core.Bool.{Bool, true, false, cond, not, _&&_}
+use mathlib.Core.Bool.{Bool, true, false, cond}
 use mathlib.Core.List.{List, [], _∷_}
-use Prim.Native.Nat.{ℕ, zero, suc, _+_, _-_, _*_, _%_, _≤_, _<_}
+use Prim.Native.Nat.{ℕ, zero, suc, _-_, _*_, _%_, _≤_}
 use native.Mathlib.Omega.{arith}
-use borrow.Author.Tests.{eqb-true, eqb-false, ne-eqb}
+use borrow.Author.Tests.{eqb-false}
 use lib.Dec.{eqb, leb}
-use lib.ListN.{length, take, drop, replicate, length-append, length-drop, length-replicate}
+use lib.ListN.{length, drop, replicate, length-append, length-drop, length-replicate}
 use lib.Seq.{length-take-le}
-use Rattle.wire.specs.Wire.{bytes16}
-use Rattle.paper.specs.Frames.{Channel, cdmuA, cdmuB, Frame, broadcast, command, tick, sample, poll, status, analogue, faulty, frameOf}
+use Rattle.paper.specs.Frames.{Channel, Frame, broadcast, command, tick, sample, poll, status, analogue, faulty, frameOf}
 use Rattle.paper.specs.Clock.{seconds, secondsOf}
 use Rattle.paper.specs.Mode as modes
-use Rattle.paper.specs.Mode.{Mode, emc, upper, mid, lower, proximity, surface, diagnostic, number, modeOf, same, Standing, Seen, ruled, next, entered}
-use Rattle.paper.specs.Impact.{Impact, Stamp, Collection, idle, running, collects, declares}
+use Rattle.paper.specs.Mode.{Mode, emc, upper, mid, lower, proximity, surface, diagnostic, number, modeOf, same, Standing, Seen, ruled, next}
+use Rattle.paper.specs.Impact.{Impact, collects}
 use Rattle.paper.specs.Commands.{Request, clear, housekeeping, setMode, Decoded, request, refusal, names, decoded}
 use Rattle.paper.specs.Streams.{acc-i, hk, pieces}
-use Rattle.paper.specs.Packets.{fill, pieceSize, filled, chunks, cut}
+use Rattle.paper.specs.Packets.{fill, filled, chunks, cut}
 use Rattle.paper.specs.Queue.{Piece, wrap, numbered}
 use Rattle.paper.specs.Controller.{Open, Controller, start, queued, withImpact, stampNow}
-use Rattle.paper.specs.Acts.{emptied, enter, heard, moved, mRaised, inProximity, last, completes, withReading, watching, ended, impactPacket, completed, ticks, joinedBy, closes, closed, keptOpen, sampled, noted, cleared, commanded, obeyed, pollOutput, pollAnswered, performed, pollAnsweredFrom, pollOutputFrom, accepted, answer}
+use Rattle.paper.specs.Acts.{emptied, enter, heard, moved, mRaised, inProximity, completes, withReading, watching, ended, impactPacket, completed, ticks, joinedBy, closes, closed, keptOpen, sampled, noted, cleared, commanded, obeyed, pollOutput, pollAnswered, performed, pollAnsweredFrom, pollOutputFrom, accepted, answer}
 use Rattle.paper.specs.Step.{holds, reply, lateHeard, erred, refused, outcome, replied, step}
 use Rattle.paper.specs.Runs.{Call, runs}
 use Rattle.paper.proofs.All.{All, all-append, all-without}

@@ -1,19 +1,19 @@
 -- What an accepted frame does to the controller, a definition for each kind of frame, and what it answers.
 -- Assumes nothing.
-use mathlib.Core.Bool.{Bool, true, false, cond, not, _&&_, _||_}
+use mathlib.Core.Bool.{Bool, true, false, cond, not, _&&_}
 use mathlib.Core.List.{List, [], _∷_, _++_}
 use Prim.Native.Nat.{ℕ, suc, _+_, _*_, _%_}
-use lib.Dec.{eqb, leb, ltb}
+use lib.Dec.{eqb, leb}
 use lib.ListN.{length}
 use Rattle.wire.specs.Wire.{bytes16}
 use Rattle.paper.specs.Frames.{Channel, cdmuA, cdmuB, Frame, broadcast, command, tick, sample, poll, status, analogue, faulty}
-use Rattle.paper.specs.Clock.{Clock, seconds, secondsOf, ticked, now}
-use Rattle.paper.specs.Mode.{Mode, proximity, surface, number, modeOf, same, Standing, ruled, entered}
+use Rattle.paper.specs.Clock.{seconds, secondsOf, ticked, now}
+use Rattle.paper.specs.Mode.{Mode, proximity, surface, number, modeOf, same, ruled, entered}
 use Rattle.paper.specs.Impact.{Impact, Stamp, above, noComparison, compared, declares, noReading, rung, Collection, idle, running, collects}
 use Rattle.paper.specs.Commands.{Request, clear, housekeeping, setMode, Decoded, request, refusal, names, decoded}
-use Rattle.paper.specs.Streams.{acc-i, hk, pieces, perPacket}
+use Rattle.paper.specs.Streams.{acc-i, hk, perPacket}
 use Rattle.paper.specs.Packets.{pack, dataOf, datastream, packetId, packetLength}
-use Rattle.paper.specs.Queue.{Piece, replaced, without, free}
+use Rattle.paper.specs.Queue.{Piece, replaced, without}
 use Rattle.paper.specs.Controller.{Both, at, raised, raisedAt, Tallies, withBroadcasts, withPackets, withTelemetry, withCommands, withLast, Open, nothingOpen, Streams, withOpened, withQueue, Controller, withClock, withStanding, withImpact, withTallies, withHoused, withStreams, stampNow, queued}
 use Rattle.paper.specs.Housekeeping.{housekeepingPacket}
 use Rattle.paper.specs.Status.{flagsOf, Shown, wordA, wordB}

@@ -110,9 +110,6 @@ module _ (x y : List ℕ) where
           ap (λ (n : ℕ). n % 4096) (be16-same (p (ltb-true t streams e)) (countAt t) (omega arith) (omega arith))
       at false e = refl
 
-  pub count-same : (t : ℕ) → Same x y (countAt t) (countAt t + 2) → countIn x t ≡ countIn y t
-  count-same t p = count-where t (λ l. p)
-
   pub counts-same : Same x y (countAt 0) (openAt 0) → countIn x ≡ countIn y
   counts-same p =
       fun-ext (λ t. count-where t (λ l. same-within (countAt t) (countAt t + 2) p (omega arith) (omega arith)))
@@ -295,17 +292,8 @@ module _ (s : List ℕ) (at : ℕ) (v : List ℕ) (fits : at + length v ≤ leng
   waiting-apart h =
       ap (capped 48) (put-same s at v fits waitingAt housedAt h .byte waitingAt (omega arith) (omega arith))
 
-  pub housed-apart : Outside at v housedAt (countAt 0) → part (put s at v) housedAt 58 ≡ part s housedAt 58
-  housed-apart h = housed-same (put s at v) s still whole (put-same s at v fits housedAt (countAt 0) h)
-
-  pub count-apart : (t : ℕ) → Outside at v (countAt t) (countAt t + 2) → countIn (put s at v) t ≡ countIn s t
-  count-apart t h = count-same (put s at v) s t (put-same s at v fits (countAt t) (countAt t + 2) h)
-
   pub counts-apart : Outside at v (countAt 0) (openAt 0) → countIn (put s at v) ≡ countIn s
   counts-apart h = counts-same (put s at v) s (put-same s at v fits (countAt 0) (openAt 0) h)
-
-  pub open-apart : (t : ℕ) → Outside at v (openAt t) (openAt t + 150) → openIn (put s at v) t ≡ openIn s t
-  open-apart t h = open-same (put s at v) s still whole t (put-same s at v fits (openAt t) (openAt t + 150) h)
 
   pub opened-apart : Outside at v (openAt 0) ringAt → openIn (put s at v) ≡ openIn s
   opened-apart h = opened-same (put s at v) s still whole (put-same s at v fits (openAt 0) ringAt h)

@@ -62,11 +62,6 @@ module _ (d : List ℕ) (at : ℕ) (v : List ℕ) (fits : at + length v ≤ leng
   pub length-put : length (put d at v) ≡ length d
   length-put = length-append (take at d ++ v) (drop (at + length v) d) ∙ rw (seam, length-drop) (omega arith)
 
-  pub take-put : (n : ℕ) → n ≤ at → take n (put d at v) ≡ take n d
-  take-put n h =
-      rw append-assoc (take-append-le n (take at d) (v ++ drop (at + length v) d) (omega (arith, before)))
-      ∙ take-take n at d h
-
   pub drop-put : (n : ℕ) → at + length v ≤ n → drop n (put d at v) ≡ drop n d
   drop-put n h =
       let k : ℕ = n - (at + length v) in
@@ -126,14 +121,6 @@ module _ (d : List ℕ) (at : ℕ) (v : List ℕ) (fits : at + length v ≤ leng
   pub be16-put-after : (i : ℕ) → at + length v ≤ i → be16 (put d at v) i ≡ be16 d i
   be16-put-after i h = omega (arith, getD-put-after i h, getD-put-after (i + 1) (omega arith))
 
-  pub be24-put-before : (i : ℕ) → i + 2 < at → be24 (put d at v) i ≡ be24 d i
-  be24-put-before i h =
-      omega (arith, getD-put-before i (omega arith), getD-put-before (i + 1) (omega arith), getD-put-before (i + 2) h)
-
-  pub be24-put-after : (i : ℕ) → at + length v ≤ i → be24 (put d at v) i ≡ be24 d i
-  be24-put-after i h =
-      omega (arith, getD-put-after i h, getD-put-after (i + 1) (omega arith), getD-put-after (i + 2) (omega arith))
-
   -- a number that is read out of what was stored
   byte-inside : (i k : ℕ) → i + k < length v → getD (put d at v) (at + i + k) 0 ≡ getD v (i + k) 0
   byte-inside i k h = ap (λ (n : ℕ). getD (put d at v) n 0) (add-assoc at i k) ∙ getD-put-inside (i + k) h
@@ -159,20 +146,7 @@ be16-put-same d at v h =
     ∙ be16-put-inside d at (bytes16 v) (omega arith) 0 (omega arith)
     ∙ be16-bytes16 v
 
-pub be24-put-same : (d : List ℕ) (at v : ℕ) → at + 2 < length d → be24 (put d at (bytes24 v)) at ≡ v
-be24-put-same d at v h =
-    ap (be24 (put d at (bytes24 v))) (sym (add-zero at))
-    ∙ be24-put-inside d at (bytes24 v) (omega arith) 0 (omega arith)
-    ∙ be24-bytes24 v
-
 -- ---- one run after another
-
--- the later of two runs at one place stays
-pub put-put-same : (d : List ℕ) (at : ℕ) (v w : List ℕ) → at + length v ≤ length d → length v ≡ length w
-    → put (put d at v) at w ≡ put d at w
-put-put-same d at v w f e =
-    ap (λ (t : List ℕ). t ++ w ++ drop (at + length w) (put d at v)) (take-put d at v f at (omega arith))
-    ∙ ap (λ (t : List ℕ). take at d ++ w ++ t) (drop-put d at v f (at + length w) (omega arith))
 
 -- two runs side by side are one
 pub put-append : (d : List ℕ) (at : ℕ) (v w : List ℕ) → at + length (v ++ w) ≤ length d

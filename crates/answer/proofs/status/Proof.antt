@@ -1,6 +1,5 @@
 -- `answer::status` meets its contract.
 -- Assumes nothing.
-use mathlib.Core.Path.{_≡_}
 use borrow.Author.Tests.{le-ltb}
 use Rattle.paper.specs.Acts.{answer}
 use Rattle.paper.specs.Step.{reply}

@@ -1,6 +1,6 @@
 -- `broadcast::hear` meets its contract.
 -- Assumes nothing.
-use mathlib.Core.Path.{_≡_, _∙_}
+use mathlib.Core.Path.{_∙_}
 use Rattle.machine.specs.Heard.{heardOn}
 use borrow.Author.Needs.{needs}
 use Rattle.broadcast.proofs.hear.Statement.{statement}

@@ -1,6 +1,5 @@
 -- `entry::enter` meets its contract.
 -- Assumes nothing.
-use mathlib.Core.Path.{_≡_, _∙_}
 use borrow.Author.Tests.{eq-eqb, ne-eqb}
 use Rattle.machine.specs.Entered.{enteredOn}
 use borrow.Author.Needs.{needs}

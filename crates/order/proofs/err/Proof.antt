@@ -1,6 +1,6 @@
 -- `order::err` meets its contract.
 -- Assumes nothing.
-use mathlib.Core.Path.{_≡_, _∙_}
+use mathlib.Core.Path.{_∙_}
 use Rattle.machine.specs.Obeyed.{erredOn}
 use borrow.Author.Needs.{needs}
 use Rattle.order.proofs.err.Statement.{statement}

@@ -1,11 +1,7 @@
 -- `order::frame` meets its contract.
 -- Assumes nothing.
-use mathlib.Core.Bool.{Bool, true, false, _&&_}
-use mathlib.Core.List.{List}
+use mathlib.Core.Bool.{true, false, _&&_}
 use native.Mathlib.Omega.{arith}
-use borrow.Author.Tests.{ltb-false}
-use lib.Dec.{ltb}
-use Rattle.paper.specs.Frames.{Channel}
 use Rattle.paper.specs.Step.{crowded, queues}
 use Rattle.frames.specs.Meaning.{channel}
 use Rattle.command.specs.Meaning.{asked, meant}
@@ -13,8 +9,8 @@ use Rattle.machine.specs.Obeyed.{notedOn, performedOn}
 use Rattle.machine.proofs.Past.{past-whole, noted-past}
 use Rattle.order.proofs.CommandReply.{refuses, crowds, takes, noted-waits}
 use mathlib.Core.Path.{_≡_, sym, ap, _∙_}
-use Prim.Native.Nat.{ℕ, _-_, _<_}
-use lib.ListN.{getD, drop}
+use Prim.Native.Nat.{ℕ}
+use lib.ListN.{drop}
 use Rattle.wire.specs.Wire.{be16}
 use Rattle.paper.specs.Commands as Commands
 use Rattle.paper.specs.Streams.{hk}

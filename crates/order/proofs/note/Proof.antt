@@ -1,6 +1,6 @@
 -- `order::note` meets its contract.
 -- Assumes nothing.
-use mathlib.Core.Path.{_≡_, _∙_}
+use mathlib.Core.Path.{_∙_}
 use Rattle.machine.specs.Obeyed.{notedOn}
 use borrow.Author.Needs.{needs}
 use Rattle.order.proofs.note.Statement.{statement}

@@ -1,6 +1,6 @@
 -- `order::obey` meets its contract.
 -- Assumes nothing.
-use mathlib.Core.Path.{_≡_, ap, _∙_}
+use mathlib.Core.Path.{ap}
 use Rattle.paper.specs.Commands as Commands
 use Rattle.paper.specs.Step.{queues}
 use Rattle.command.specs.Meaning.{asked}

@@ -1,6 +1,6 @@
 -- `order::set_mode` meets its contract.
 -- Assumes nothing.
-use mathlib.Core.Path.{_≡_, _∙_}
+use mathlib.Core.Path.{_∙_}
 use Rattle.machine.specs.Obeyed.{commandedOn}
 use Rattle.machine.proofs.Past.{past-whole, further-past}
 use borrow.Author.Needs.{needs}

@@ -1,6 +1,6 @@
 -- `wire::raise16` meets its contract.
 -- Assumes nothing.
-use mathlib.Core.Path.{_≡_, _∙_}
+use mathlib.Core.Path.{_∙_}
 use Rattle.wire.specs.Wire.{raisedOn}
 use borrow.Author.Needs.{needs}
 use Rattle.wire.proofs.raise16.Statement.{statement}
