@@ -25,7 +25,7 @@ use Rattle.state.specs.Layout.{timeAt, altitudeAt, spinAt, phaseAt, mAt,
 unfoldable pub capped : ℕ → ℕ → ℕ
 capped most n = cond (ltb n most) n most
 
--- m, "which stays at 1023"
+-- m, which "stays at 1023"
 abbrev pub mIn : List ℕ → ℕ
 mIn s = capped 1023 (be16 s mAt)
 
