@@ -1,99 +1,22 @@
-/* header.c: holds every number of include/ssp.h to what the library does.
+/* header.c: holds every number and rule of include/ssp.h to what the library
+ * does, and every name of include/ssp_names.h to the rules.
  *
- *   header INCLUDE/ssp.h
+ *   header INCLUDE CHANGELOG
  *
  * Each name of the header is compared with a number found by calling the
- * entries; then the header is read as text, and a name of it that was not
- * compared is a failure. */
+ * entries; then both headers are read as text, and a name in them that was not
+ * compared is a failure.  In this order: lengths, kinds and channels, time,
+ * altitude and readings, commands and modes, streams and samples, status words,
+ * replies, the reader's promise, the headers' text.  Packets are in layout.c,
+ * names in names.c. */
 #include <stdbool.h>
 #include <stdio.h>
 #include <string.h>
 
-#include "ssp.h"
 #include "frames.h"
+#include "held.h"
 
-enum { ROOM = 32768, NAMES = 200 }; /* document 01: at most 32,768 bytes */
-
-static uint8_t state[ROOM], reader[ROOM], out[1024];
-static const char *held[NAMES];
-static unsigned held_count, failures;
-
-static void hold(const char *name, unsigned long header, unsigned long library)
-{
-    held[held_count++] = name;
-    if (header == library)
-        return;
-    failures++;
-    printf("header: %s is %lu, the library says %lu\n", name, header, library);
-}
-
-#define HOLDS(name, found) hold(#name, name, (unsigned long)(found))
-
-/* --------------------------------------------------------------- asking */
-
-static uint8_t give(const uint8_t *frame, size_t n)
-{
-    return ssp_frame(state, ROOM, frame, n, out, sizeof out);
-}
-
-static void fresh(void)
-{
-    ssp_start(state, ROOM);
-}
-
-static uint8_t order(unsigned id, unsigned value)
-{
-    uint8_t frame[FRAME_MOST];
-
-    return give(frame, frame_order(frame, 0, id, 1, value));
-}
-
-static uint8_t housekeeping(void)
-{
-    uint8_t frame[FRAME_MOST];
-
-    return give(frame, frame_command(frame, 0, SSP_SEND_HOUSEKEEPING, 1));
-}
-
-static uint8_t poll_with(unsigned channel_byte)
-{
-    uint8_t frame[2] = {SSP_POLL, (uint8_t)channel_byte};
-
-    return give(frame, 2);
-}
-
-static unsigned word_with(unsigned channel_byte, unsigned low, unsigned flags)
-{
-    uint8_t frame[4] = {SSP_STATUS, (uint8_t)channel_byte, (uint8_t)low,
-                        (uint8_t)flags};
-
-    give(frame, 4);
-    return (unsigned)number(out, 2);
-}
-
-static uint8_t tick(unsigned reading)
-{
-    uint8_t frame[FRAME_MOST];
-
-    return give(frame, frame_tick(frame, reading));
-}
-
-/* Gives a sample frame of so many bytes. */
-static uint8_t sample(unsigned stream, unsigned size)
-{
-    uint8_t frame[FRAME_MOST] = {SSP_SAMPLE, (uint8_t)stream};
-
-    return give(frame, 2 + size);
-}
-
-/* Housekeeping as a packet, in out. */
-static const uint8_t *look(void)
-{
-    order(SSP_CLEAR_STREAMS, SSP_CLEARABLE);
-    housekeeping();
-    poll_with(SSP_CHANNEL_A);
-    return out;
-}
+static uint8_t reader[HELD_ROOM];
 
 /* ------------------------------------------------------------- lengths */
 
@@ -101,7 +24,7 @@ static size_t least_start(uint8_t (*start)(uint8_t *, size_t), uint8_t *bytes)
 {
     size_t n;
 
-    for (n = 0; n < ROOM && start(bytes, n) != 0; n++)
+    for (n = 0; n < HELD_ROOM && start(bytes, n) != 0; n++)
         ;
     return n;
 }
@@ -112,8 +35,9 @@ static size_t least_out(void)
     size_t n;
 
     fresh();
-    for (n = 0; n < ROOM; n++)
-        if (ssp_frame(state, ROOM, frame, 4, out, n) != SSP_SHORT_OUTPUT)
+    for (n = 0; n < HELD_ROOM; n++)
+        if (ssp_frame(held_state, HELD_ROOM, frame, 4, held_out, n) !=
+            SSP_CONTROLLER_SHORT_OUTPUT)
             break;
     return n;
 }
@@ -122,31 +46,31 @@ static size_t least_reader_out(void)
 {
     size_t n;
 
-    ssp_reader_start(reader, ROOM);
-    for (n = 0; n < ROOM; n++)
-        if (ssp_reader_packet(reader, ROOM, NULL, 0, out, n) !=
+    ssp_reader_start(reader, HELD_ROOM);
+    for (n = 0; n < HELD_ROOM; n++)
+        if (ssp_reader_packet(reader, HELD_ROOM, NULL, 0, held_out, n) !=
             SSP_READER_SHORT_OUTPUT)
             break;
     return n;
 }
 
-/* How many bytes of out an accepted frame writes: those that come out alike
- * from two fills. */
+/* How many bytes of the output an accepted frame writes: those that come out
+ * alike from two fills. */
 static size_t bytes_written(const uint8_t *frame, size_t n)
 {
-    static uint8_t first[sizeof out];
+    static uint8_t first[sizeof held_out];
     size_t count = 0;
 
     fresh();
-    housekeeping();
-    memset(out, 0, sizeof out);
+    give_housekeeping();
+    memset(held_out, 0, sizeof held_out);
     give(frame, n);
-    memcpy(first, out, sizeof out);
+    memcpy(first, held_out, sizeof held_out);
     fresh();
-    housekeeping();
-    memset(out, 0xFF, sizeof out);
+    give_housekeeping();
+    memset(held_out, 0xFF, sizeof held_out);
     give(frame, n);
-    while (count < sizeof out && first[count] == out[count])
+    while (count < sizeof held_out && first[count] == held_out[count])
         count++;
     return count;
 }
@@ -156,7 +80,7 @@ static unsigned slots(void)
     unsigned count = 0;
 
     fresh();
-    while (housekeeping() == SSP_ACCEPTED)
+    while (give_housekeeping() == SSP_CONTROLLER_ACCEPTED)
         count++;
     return count;
 }
@@ -166,13 +90,12 @@ static void hold_lengths(void)
     static const uint8_t poll[2] = {SSP_POLL, SSP_CHANNEL_A};
     static const uint8_t status[4] = {SSP_STATUS, SSP_CHANNEL_A, 1, 2};
 
-    HOLDS(SSP_STATE_BYTES, least_start(ssp_start, state));
+    HOLDS(SSP_STATE_BYTES, least_start(ssp_start, held_state));
     HOLDS(SSP_READER_BYTES, least_start(ssp_reader_start, reader));
     HOLDS(SSP_OUT_BYTES, least_out());
     HOLDS(SSP_READER_OUT_BYTES, least_reader_out());
     HOLDS(SSP_PACKET_BYTES, bytes_written(poll, 2));
-    HOLDS(SSP_STATUS_BYTES, bytes_written(status, 4));
-    HOLDS(SSP_PIECE_BYTES, ssp_stream_length(SSP_STREAM_HK));
+    HOLDS(SSP_STATUS_WORD_BYTES, bytes_written(status, 4));
     HOLDS(SSP_QUEUE_SLOTS, slots());
 }
 
@@ -186,9 +109,9 @@ static unsigned shortest(unsigned kind, bool *only)
     unsigned n = 0;
 
     fresh();
-    while (n < FRAME_MOST && give(frame, n) == SSP_NO_FRAME)
+    while (n < FRAME_MOST && give(frame, n) == SSP_CONTROLLER_NO_FRAME)
         n++;
-    *only = give(frame, n + 1) == SSP_NO_FRAME;
+    *only = give(frame, n + 1) == SSP_CONTROLLER_NO_FRAME;
     return n;
 }
 
@@ -205,24 +128,44 @@ static unsigned kind_of(unsigned length, bool only)
     return found;
 }
 
+/* The length of the longest frame of zeros that is accepted, from far above
+ * down; in mode 5, where every sample is taken. */
+static unsigned longest(void)
+{
+    uint8_t frame[2200] = {0};
+    unsigned n, i;
+
+    fresh();
+    give_order(SSP_SET_MODE, SSP_MODE_SURFACE);
+    for (n = sizeof frame; n > 0; n--)
+        for (i = 0; i < 16 * 16; i++) {
+            frame[0] = (uint8_t)(i / 16);
+            frame[1] = (uint8_t)(i % 16);
+            if (give(frame, n) == SSP_CONTROLLER_ACCEPTED)
+                return n;
+        }
+    return 0;
+}
+
 static void hold_kinds(void)
 {
     bool only;
 
-    HOLDS(SSP_BROADCAST_BYTES, shortest(SSP_BROADCAST, &only));
-    HOLDS(SSP_COMMAND_BYTES, shortest(SSP_COMMAND, &only));
-    HOLDS(SSP_TICK_BYTES, shortest(SSP_TICK, &only));
-    HOLDS(SSP_SAMPLE_BYTES, shortest(SSP_SAMPLE, &only));
-    HOLDS(SSP_POLL_BYTES, shortest(SSP_POLL, &only));
+    HOLDS(SSP_BROADCAST_FRAME_BYTES, shortest(SSP_BROADCAST, &only));
+    HOLDS(SSP_COMMAND_FRAME_BYTES, shortest(SSP_COMMAND, &only));
+    HOLDS(SSP_TICK_FRAME_BYTES, shortest(SSP_TICK, &only));
+    HOLDS(SSP_SAMPLE_FRAME_BYTES, shortest(SSP_SAMPLE, &only));
+    HOLDS(SSP_POLL_FRAME_BYTES, shortest(SSP_POLL, &only));
     HOLDS(SSP_STATUS_FRAME_BYTES, shortest(SSP_STATUS, &only));
-    HOLDS(SSP_ANALOGUE_BYTES, shortest(SSP_ANALOGUE, &only));
-    HOLDS(SSP_BROADCAST, kind_of(SSP_BROADCAST_BYTES, true));
-    HOLDS(SSP_COMMAND, kind_of(SSP_COMMAND_BYTES, false));
-    HOLDS(SSP_TICK, kind_of(SSP_TICK_BYTES, true));
-    HOLDS(SSP_SAMPLE, kind_of(SSP_SAMPLE_BYTES, false));
-    HOLDS(SSP_POLL, kind_of(SSP_POLL_BYTES, true));
+    HOLDS(SSP_ANALOGUE_FRAME_BYTES, shortest(SSP_ANALOGUE, &only));
+    HOLDS(SSP_LONGEST_FRAME_BYTES, longest());
+    HOLDS(SSP_BROADCAST, kind_of(SSP_BROADCAST_FRAME_BYTES, true));
+    HOLDS(SSP_COMMAND, kind_of(SSP_COMMAND_FRAME_BYTES, false));
+    HOLDS(SSP_TICK, kind_of(SSP_TICK_FRAME_BYTES, true));
+    HOLDS(SSP_SAMPLE, kind_of(SSP_SAMPLE_FRAME_BYTES, false));
+    HOLDS(SSP_POLL, kind_of(SSP_POLL_FRAME_BYTES, true));
     HOLDS(SSP_STATUS, kind_of(SSP_STATUS_FRAME_BYTES, true));
-    HOLDS(SSP_ANALOGUE, kind_of(SSP_ANALOGUE_BYTES, true));
+    HOLDS(SSP_ANALOGUE, kind_of(SSP_ANALOGUE_FRAME_BYTES, true));
 }
 
 /* The channel byte on which polled packets have this ID. */
@@ -232,8 +175,9 @@ static unsigned channel_with(unsigned id)
 
     for (byte = 0; byte < 256; byte++) {
         fresh();
-        housekeeping();
-        if (poll_with(byte) == SSP_ACCEPTED && number(out, 2) == id)
+        give_housekeeping();
+        if (poll_with(byte) == SSP_CONTROLLER_ACCEPTED &&
+            number(held_out, 2) == id)
             break;
     }
     return byte;
@@ -245,7 +189,89 @@ static void hold_channels(void)
     HOLDS(SSP_CHANNEL_B, channel_with(0x0FB4));
 }
 
-/* ------------------------------------------------------------- commands */
+/* ------------------------------------------- time, altitude and readings */
+
+/* The first time word that a broadcast at time 0 makes late. */
+static unsigned quarters(void)
+{
+    unsigned time;
+
+    for (time = 0; time < 100; time++) {
+        fresh();
+        give_broadcast(time, 9000);
+        if (give_broadcast(0, 9000) == SSP_CONTROLLER_TIME_BACK)
+            break;
+    }
+    return time;
+}
+
+/* The mode of a fresh controller after a broadcast. */
+static unsigned mode_at(unsigned seconds, unsigned altitude)
+{
+    fresh();
+    give_broadcast(seconds * SSP_TIME_WORD_UNITS, altitude);
+    return mode_now();
+}
+
+/* The bits of an altitude word, from one above 7 km on, that do not count as
+ * height. */
+static unsigned not_height(void)
+{
+    unsigned bit, all = 0;
+
+    for (bit = 10; bit < 16; bit++)
+        if (mode_at(0, 1u << bit) == SSP_MODE_PROXIMITY)
+            all |= 1u << bit;
+    return all;
+}
+
+/* The greatest altitude word that is 7 km or less. */
+static unsigned seven_kilometres(void)
+{
+    unsigned altitude = 0;
+
+    while (mode_at(0, altitude + 1) == SSP_MODE_PROXIMITY)
+        altitude++;
+    return altitude;
+}
+
+static unsigned greatest_reading(void)
+{
+    unsigned reading = 0;
+
+    fresh();
+    while (give_tick(reading + 1) == SSP_CONTROLLER_ACCEPTED)
+        reading++;
+    return reading;
+}
+
+/* The least reading above 80 of which three declare no impact. */
+static unsigned first_negative(void)
+{
+    unsigned reading = 80, i;
+
+    do {
+        reading++;
+        fresh();
+        give_order(SSP_SET_MODE, SSP_MODE_PROXIMITY);
+        for (i = 0; i < 3; i++)
+            give_tick(reading);
+    } while ((word_with(SSP_CHANNEL_A, 0, 0) & SSP_A_IMPACT) != 0);
+    return reading;
+}
+
+static void hold_values(void)
+{
+    HOLDS(SSP_TIME_WORD_UNITS, quarters());
+    HOLDS(SSP_ALTITUDE_PREDICTED, not_height());
+    HOLDS(SSP_ALTITUDE_HEIGHT, 0xFFFF ^ not_height());
+    HOLDS(SSP_ALTITUDE_METRES, 7000 / seven_kilometres());
+    HOLDS(SSP_READING_MOST, greatest_reading());
+    HOLDS(SSP_READING_NEGATIVE, first_negative());
+    HOLDS(SSP_READING_SPAN, 2 * first_negative());
+}
+
+/* --------------------------------------------------- commands and modes */
 
 /* The command id that, accepted with these parameters, does what done sees. */
 static unsigned id_that(size_t parameters, bool (*done)(void))
@@ -258,7 +284,7 @@ static unsigned id_that(size_t parameters, bool (*done)(void))
         give(frame, frame_command(frame, 0, SSP_SEND_HOUSEKEEPING, 1));
         frame_order(frame, 0, id, 1, 4);
         frame[6] = parameters == 2 ? frame[6] : 0;
-        if (give(frame, 6 + parameters) == SSP_ACCEPTED && done())
+        if (give(frame, 6 + parameters) == SSP_CONTROLLER_ACCEPTED && done())
             break;
     }
     return id;
@@ -266,8 +292,7 @@ static unsigned id_that(size_t parameters, bool (*done)(void))
 
 static bool mode_is_4(void)
 {
-    return (word_with(SSP_CHANNEL_A, 0, 0) & SSP_A_MODE) ==
-           4 * SSP_A_MODE_UNIT;
+    return mode_now() == 4;
 }
 
 static bool two_wait(void)
@@ -287,7 +312,8 @@ static unsigned clearable(void)
 
     fresh();
     for (bit = 0; bit < 16; bit++)
-        if (order(SSP_CLEAR_STREAMS, 1u << bit) == SSP_ACCEPTED)
+        if (give_order(SSP_CLEAR_STREAMS, 1u << bit) ==
+            SSP_CONTROLLER_ACCEPTED)
             all |= 1u << bit;
     return all;
 }
@@ -295,18 +321,53 @@ static unsigned clearable(void)
 /* What set-mode adds so that a broadcast at 7 km leaves mode 1. */
 static unsigned lock(void)
 {
-    uint8_t frame[FRAME_MOST];
     unsigned added;
 
     for (added = 0; added < 64; added++) {
         fresh();
-        if (order(SSP_SET_MODE, 1 + added) != SSP_ACCEPTED)
+        if (give_order(SSP_SET_MODE, 1 + added) != SSP_CONTROLLER_ACCEPTED)
             continue;
-        give(frame, frame_broadcast(frame, 0, 0, 100));
-        if ((word_with(SSP_CHANNEL_A, 0, 0) & SSP_A_MODE) == SSP_A_MODE_UNIT)
+        give_broadcast(0, 100);
+        if (mode_now() == 1)
             break;
     }
     return added;
+}
+
+/* The modes, a bit each, in which a sample of this stream is taken. */
+static unsigned modes_of(unsigned stream, unsigned size)
+{
+    unsigned mode, all = 0;
+
+    for (mode = 0; mode < 8; mode++) {
+        fresh();
+        give_order(SSP_SET_MODE, mode);
+        if (give_sample(stream, size) == SSP_CONTROLLER_ACCEPTED)
+            all |= 1u << mode;
+    }
+    return all;
+}
+
+/* The modes of a descent by its clock and its end; EMC and diagnostic are the
+ * two in which no sample is taken. */
+static void hold_modes(void)
+{
+    unsigned sampled = modes_of(SSP_STREAM_DEN, 2), mode, silent[8], count = 0;
+
+    for (mode = 0; mode < 8; mode++)
+        if ((sampled >> mode & 1) == 0)
+            silent[count++] = mode;
+    hold("modes without samples", 2, count);
+    HOLDS(SSP_MODE_EMC, silent[0]);
+    HOLDS(SSP_MODE_DIAGNOSTIC, silent[1]);
+    HOLDS(SSP_MODE_UPPER_ATMOSPHERE, mode_at(0, 9000));
+    HOLDS(SSP_MODE_MID_ATMOSPHERE, mode_at(600, 9000));
+    HOLDS(SSP_MODE_LOWER_ATMOSPHERE, mode_at(5100, 9000));
+    HOLDS(SSP_MODE_PROXIMITY, mode_at(7200, 9000));
+    give_broadcast((7200 + 1860) * SSP_TIME_WORD_UNITS, 9000);
+    HOLDS(SSP_MODE_SURFACE, mode_now());
+    give_broadcast((7200 + 1860 + 180) * SSP_TIME_WORD_UNITS, 9000);
+    HOLDS(SSP_MODE_EXTENDED_SURFACE, mode_now());
 }
 
 static void hold_commands(void)
@@ -318,14 +379,14 @@ static void hold_commands(void)
     HOLDS(SSP_LOCKED, lock());
 }
 
-/* -------------------------------------------------------------- streams */
+/* ----------------------------------------------------- streams, samples */
 
 /* The stream from this one on that takes samples of this size. */
 static unsigned stream_with(unsigned from, unsigned size)
 {
     fresh();
-    order(SSP_SET_MODE, 5);
-    while (from < 256 && sample(from, size) != SSP_ACCEPTED)
+    give_order(SSP_SET_MODE, 5);
+    while (from < 256 && give_sample(from, size) != SSP_CONTROLLER_ACCEPTED)
         from++;
     return from;
 }
@@ -333,14 +394,81 @@ static unsigned stream_with(unsigned from, unsigned size)
 /* The stream of the record that an impact leaves. */
 static unsigned impact_stream(void)
 {
-    unsigned i;
+    fresh();
+    give_order(SSP_SET_MODE, 4);
+    give_record();
+    poll_with(SSP_CHANNEL_A);
+    return held_out[7] % 16;
+}
+
+static unsigned housekeeping_stream(void)
+{
+    fresh();
+    give_housekeeping();
+    poll_with(SSP_CHANNEL_A);
+    return held_out[7] % 16;
+}
+
+static unsigned sample_bytes(unsigned stream)
+{
+    unsigned size = 0;
 
     fresh();
-    order(SSP_SET_MODE, 4);
-    for (i = 0; i < 3 + 448; i++)
-        tick(500);
-    poll_with(SSP_CHANNEL_A);
-    return out[7] % 16;
+    while (size < FRAME_MOST &&
+           give_sample(stream, size) == SSP_CONTROLLER_WRONG_LENGTH)
+        size++;
+    return size;
+}
+
+/* How many samples bring a stream's first piece. */
+static unsigned samples(unsigned stream)
+{
+    unsigned count = 0, size = sample_bytes(stream);
+
+    fresh();
+    give_order(SSP_SET_MODE, SSP_MODE_SURFACE);
+    do {
+        give_sample(stream, size);
+        count++;
+    } while (count < 1000 && poll_with(SSP_CHANNEL_A) != 0);
+    return count;
+}
+
+static unsigned greatest_den(void)
+{
+    uint8_t frame[4] = {SSP_SAMPLE, SSP_STREAM_DEN, 0, 0};
+    unsigned value, most = 0;
+
+    for (value = 0; value < 65536; value++) {
+        fresh();
+        put_number(frame + 2, 2, value);
+        if (give(frame, 4) == SSP_CONTROLLER_ACCEPTED)
+            most = value;
+    }
+    return most;
+}
+
+static void hold_samples(void)
+{
+    unsigned early = 0x7E, stream; /* modes 1 to 6 */
+
+    HOLDS(SSP_API_V_SAMPLE_BYTES, sample_bytes(SSP_STREAM_API_V));
+    HOLDS(SSP_DEN_SAMPLE_BYTES, sample_bytes(SSP_STREAM_DEN));
+    HOLDS(SSP_PER_SAMPLE_BYTES, sample_bytes(SSP_STREAM_PER));
+    HOLDS(SSP_TIL_SAMPLE_BYTES, sample_bytes(SSP_STREAM_TIL));
+    HOLDS(SSP_ACC_E_SAMPLE_BYTES, sample_bytes(SSP_STREAM_ACC_E));
+    HOLDS(SSP_API_V_SAMPLES, samples(SSP_STREAM_API_V));
+    HOLDS(SSP_DEN_SAMPLES, samples(SSP_STREAM_DEN));
+    HOLDS(SSP_PER_SAMPLES, samples(SSP_STREAM_PER));
+    HOLDS(SSP_TIL_SAMPLES, samples(SSP_STREAM_TIL));
+    HOLDS(SSP_ACC_E_SAMPLES, samples(SSP_STREAM_ACC_E));
+    HOLDS(SSP_DEN_MOST, greatest_den());
+    for (stream = 0; stream < 12; stream++)
+        if (stream != SSP_STREAM_ACC_E && sample_size(stream) > 0)
+            hold("modes of samples", early,
+                 modes_of(stream, sample_size(stream)));
+    hold("modes of ACC-E samples", 1u << SSP_MODE_SURFACE,
+         modes_of(SSP_STREAM_ACC_E, SSP_ACC_E_SAMPLE_BYTES));
 }
 
 static void hold_streams(void)
@@ -352,13 +480,12 @@ static void hold_streams(void)
     HOLDS(SSP_STREAM_DEN, stream_with(0, 2));
     HOLDS(SSP_STREAM_PER, stream_with(SSP_STREAM_API_V + 1, 3));
     HOLDS(SSP_STREAM_TIL, stream_with(0, 6));
-    fresh();
-    HOLDS(SSP_STREAM_HK, look()[7] % 16);
+    HOLDS(SSP_STREAM_HK, housekeeping_stream());
     HOLDS(SSP_STREAM_ACC_E, stream_with(0, 512));
     for (stream = 0; stream < 256; stream++) {
-        hold("ssp_stream_length", stream_listed(stream),
-             ssp_stream_length((uint8_t)stream));
-        held_count--;
+        if (ssp_stream_length((uint8_t)stream) != stream_listed(stream))
+            hold("ssp_stream_length", stream_listed(stream),
+                 ssp_stream_length((uint8_t)stream));
         if (ssp_stream_length((uint8_t)stream) > 0)
             carried |= 1u << stream;
     }
@@ -387,9 +514,9 @@ static unsigned count_bits(unsigned channel)
     unsigned once;
 
     fresh();
-    order(SSP_SET_MODE, 4);
+    give_order(SSP_SET_MODE, 4);
     once = word_with(channel, 0, 0);
-    order(SSP_SET_MODE, 4);
+    give_order(SSP_SET_MODE, 4);
     return once ^ word_with(channel, 0, 0);
 }
 
@@ -398,10 +525,10 @@ static unsigned impact_bits(unsigned channel)
     unsigned before, i;
 
     fresh();
-    order(SSP_SET_MODE, 4);
+    give_order(SSP_SET_MODE, 4);
     before = word_with(channel, 0, 0);
     for (i = 0; i < 3; i++)
-        tick(500);
+        give_tick(500);
     return before ^ word_with(channel, 0, 0);
 }
 
@@ -412,8 +539,8 @@ static unsigned mode_bits(unsigned channel, unsigned modes)
 
     fresh();
     for (mode = 0; mode < modes; mode++) {
-        order(SSP_SET_MODE, 0);
-        order(SSP_SET_MODE, mode);
+        give_order(SSP_SET_MODE, 0);
+        give_order(SSP_SET_MODE, mode);
         if (mode == 0)
             first = word_with(channel, 0, 0);
         all |= first ^ word_with(channel, 0, 0);
@@ -462,34 +589,49 @@ static void hold_words(void)
 
 static uint8_t time_back(void)
 {
-    uint8_t frame[FRAME_MOST];
-
     fresh();
-    give(frame, frame_broadcast(frame, 0, 400, 9000));
-    return give(frame, frame_broadcast(frame, 0, 396, 9000));
+    give_broadcast(400, 9000);
+    return give_broadcast(396, 9000);
+}
+
+/* What is judged of a state: its length and the mark, and nothing behind. */
+static void hold_judged_state(void)
+{
+    size_t i;
+
+    memset(held_state, 0, HELD_ROOM);
+    hold("a controller that was never started", SSP_CONTROLLER_UNFIT_STATE,
+         give(NULL, 0));
+    ssp_reader_start(held_state, HELD_ROOM);
+    hold("a reader as a controller", SSP_CONTROLLER_UNFIT_STATE,
+         give(NULL, 0));
+    fresh();
+    for (i = 2; i < SSP_STATE_BYTES; i++)
+        held_state[i] = (uint8_t)(i * 37 + i / 256);
+    hold("a controller written into", SSP_CONTROLLER_ACCEPTED, give_tick(1));
+    held_state[1] ^= 1;
+    hold("a controller without its mark", SSP_CONTROLLER_UNFIT_STATE,
+         give_tick(1));
 }
 
 static void hold_replies(void)
 {
     fresh();
-    HOLDS(SSP_ACCEPTED, tick(4095));
-    HOLDS(SSP_NO_FRAME, give(NULL, 0));
-    HOLDS(SSP_NOT_CARRIED, sample(SSP_STREAM_HK, 1));
-    HOLDS(SSP_WRONG_LENGTH, sample(SSP_STREAM_DEN, 1));
-    HOLDS(SSP_OUT_OF_RANGE, tick(4096));
-    HOLDS(SSP_TIME_BACK, time_back());
-    HOLDS(SSP_NOT_IN_THIS_MODE, sample(SSP_STREAM_ACC_E, 512));
-    HOLDS(SSP_NOTHING_WAITS, poll_with(SSP_CHANNEL_B));
+    HOLDS(SSP_CONTROLLER_ACCEPTED, give_tick(4095));
+    HOLDS(SSP_CONTROLLER_NO_FRAME, give(NULL, 0));
+    HOLDS(SSP_CONTROLLER_NOT_CARRIED, give_sample(SSP_STREAM_HK, 1));
+    HOLDS(SSP_CONTROLLER_WRONG_LENGTH, give_sample(SSP_STREAM_DEN, 1));
+    HOLDS(SSP_CONTROLLER_OUT_OF_RANGE, give_tick(4096));
+    HOLDS(SSP_CONTROLLER_TIME_BACK, time_back());
+    HOLDS(SSP_CONTROLLER_NOT_IN_THIS_MODE, give_sample(SSP_STREAM_ACC_E, 512));
+    HOLDS(SSP_CONTROLLER_NOTHING_WAITS, poll_with(SSP_CHANNEL_B));
     slots();
-    HOLDS(SSP_NO_ROOM, housekeeping());
-    HOLDS(SSP_SHORT_OUTPUT, ssp_frame(state, ROOM, NULL, 0, NULL, 0));
-    HOLDS(SSP_UNFIT_STATE, ssp_frame(NULL, 0, NULL, 0, NULL, 0));
-    hold("start on nothing", SSP_UNFIT_STATE, ssp_start(NULL, 0));
-    memset(state, 0, ROOM);
-    hold("a controller that was never started", SSP_UNFIT_STATE,
-         give(NULL, 0));
-    ssp_reader_start(state, ROOM);
-    hold("a reader as a controller", SSP_UNFIT_STATE, give(NULL, 0));
+    HOLDS(SSP_CONTROLLER_NO_ROOM, give_housekeeping());
+    HOLDS(SSP_CONTROLLER_SHORT_OUTPUT,
+          ssp_frame(held_state, HELD_ROOM, NULL, 0, NULL, 0));
+    HOLDS(SSP_CONTROLLER_UNFIT_STATE, ssp_frame(NULL, 0, NULL, 0, NULL, 0));
+    hold("start on nothing", SSP_CONTROLLER_UNFIT_STATE, ssp_start(NULL, 0));
+    hold_judged_state();
 }
 
 static uint8_t read_piece(unsigned stream, unsigned count, unsigned place)
@@ -497,60 +639,137 @@ static uint8_t read_piece(unsigned stream, unsigned count, unsigned place)
     uint8_t packet[SSP_PACKET_BYTES];
 
     packet_of(packet, stream, count, place, 1);
-    return ssp_reader_packet(reader, ROOM, packet, sizeof packet, out,
-                             sizeof out);
+    return ssp_reader_packet(reader, HELD_ROOM, packet, sizeof packet,
+                             held_out, sizeof held_out);
+}
+
+static uint8_t read_nothing(void)
+{
+    return ssp_reader_packet(reader, HELD_ROOM, NULL, 0, held_out,
+                             sizeof held_out);
+}
+
+static void hold_judged_reader(void)
+{
+    size_t i;
+
+    memset(reader, 0, HELD_ROOM);
+    hold("a reader that was never started", SSP_READER_UNFIT_STATE,
+         read_nothing());
+    ssp_start(reader, HELD_ROOM);
+    hold("a controller as a reader", SSP_READER_UNFIT_STATE, read_nothing());
+    ssp_reader_start(reader, HELD_ROOM);
+    for (i = 2; i < SSP_READER_BYTES; i++)
+        reader[i] = (uint8_t)(i * 37 + i / 256);
+    hold("a reader written into", SSP_READER_NO_PACKET, read_nothing());
+    reader[0] ^= 1;
+    hold("a reader without its mark", SSP_READER_UNFIT_STATE, read_nothing());
 }
 
 static void hold_reader_replies(void)
 {
-    ssp_reader_start(reader, ROOM);
+    ssp_reader_start(reader, HELD_ROOM);
     HOLDS(SSP_READER_TAKEN, read_piece(SSP_STREAM_ACC_E, 0, 0));
     HOLDS(SSP_READER_REPEAT, read_piece(SSP_STREAM_ACC_E, 0, 0));
     HOLDS(SSP_READER_HANDED_OUT, read_piece(SSP_STREAM_DEN, 0, 0));
     HOLDS(SSP_READER_SPOILT, read_piece(SSP_STREAM_DEN, 1, 2));
     HOLDS(SSP_READER_NOT_CARRIED, read_piece(3, 0, 0));
-    HOLDS(SSP_READER_NO_PACKET,
-          ssp_reader_packet(reader, ROOM, NULL, 0, out, sizeof out));
+    HOLDS(SSP_READER_NO_PACKET, read_nothing());
     HOLDS(SSP_READER_SHORT_OUTPUT,
-          ssp_reader_packet(reader, ROOM, NULL, 0, NULL, 0));
+          ssp_reader_packet(reader, HELD_ROOM, NULL, 0, NULL, 0));
     HOLDS(SSP_READER_UNFIT_STATE,
           ssp_reader_packet(NULL, 0, NULL, 0, NULL, 0));
     hold("reader's start on nothing", SSP_READER_UNFIT_STATE,
          ssp_reader_start(NULL, 0));
-    memset(reader, 0, ROOM);
-    hold("a reader that was never started", SSP_READER_UNFIT_STATE,
-         ssp_reader_packet(reader, ROOM, NULL, 0, out, sizeof out));
-    ssp_start(reader, ROOM);
-    hold("a controller as a reader", SSP_READER_UNFIT_STATE,
-         ssp_reader_packet(reader, ROOM, NULL, 0, out, sizeof out));
+    hold_judged_reader();
 }
 
-/* ------------------------------------------------------ the header's text */
+/* -------------------------------------------------- the reader's promise */
 
-static bool was_held(const char *name)
+/* How many of these ACC-E pieces, given by their counts, end a packet that is
+ * handed out. */
+static unsigned handed_out(const unsigned *counts, unsigned n)
 {
-    unsigned i;
+    unsigned i, all = 0;
 
-    for (i = 0; i < held_count; i++)
-        if (strcmp(held[i], name) == 0)
-            return true;
-    return false;
+    for (i = 0; i < n; i++)
+        all += read_piece(SSP_STREAM_ACC_E, counts[i], counts[i] % 5) ==
+               SSP_READER_HANDED_OUT;
+    return all;
 }
 
-/* Every name that the header defines was held. */
-static unsigned read_header(const char *path)
+/* How many pieces may be missing before a first arrival. */
+static unsigned most_missing(void)
 {
-    char line[200], name[100];
-    unsigned names = 0;
+    unsigned missing = 0;
+
+    do {
+        missing++;
+        ssp_reader_start(reader, HELD_ROOM);
+    } while (read_piece(SSP_STREAM_HK, missing, 0) == SSP_READER_HANDED_OUT);
+    return missing - 1;
+}
+
+static void hold_promise(void)
+{
+    static const unsigned whole[] = {0, 1, 2, 3, 4}, back[] = {0, 1, 2, 1, 3, 4},
+                          again[] = {0, 1, 1, 2, 2, 2, 3, 4, 4};
+
+    HOLDS(SSP_MOST_MISSING, most_missing());
+    ssp_reader_start(reader, HELD_ROOM);
+    hold("a packet whole", 1, handed_out(whole, 5));
+    hold("the same recording again", 0, handed_out(whole, 5));
+    ssp_reader_start(reader, HELD_ROOM);
+    hold("the same recording, a fresh reader", 1, handed_out(whole, 5));
+    ssp_reader_start(reader, HELD_ROOM);
+    hold("pieces 0 1 2 1 3 4", 0, handed_out(back, 6));
+    ssp_reader_start(reader, HELD_ROOM);
+    hold("repeats as next arrivals", 1, handed_out(again, 9));
+}
+
+/* ----------------------------------------------------- the headers' text */
+
+/* The version is that of the newest part of the changelog, "## N". */
+static void hold_version(const char *path)
+{
+    char line[400];
+    unsigned version = 0;
     FILE *file = fopen(path, "r");
 
+    while (file != NULL && version == 0 &&
+           fgets(line, sizeof line, file) != NULL)
+        sscanf(line, "## %u", &version);
+    if (file != NULL)
+        fclose(file);
+    HOLDS(SSP_VERSION, version);
+}
+
+/* The name that a line of a header defines, or an empty one. */
+static void name_in(const char *line, char *name)
+{
+    *name = 0;
+    if (sscanf(line, "#define %99[A-Za-z0-9_]", name) == 1)
+        return;
+    sscanf(line, "static inline const char *%99[a-z_]", name);
+}
+
+/* Every name that a header defines was held. */
+static unsigned read_header(const char *folder, const char *header)
+{
+    char line[200], name[100], path[1000];
+    unsigned names = 0;
+    FILE *file;
+
+    snprintf(path, sizeof path, "%s/%s", folder, header);
+    file = fopen(path, "r");
     while (file != NULL && fgets(line, sizeof line, file) != NULL) {
-        if (sscanf(line, "#define %99s", name) != 1 ||
-            strcmp(name, "SSP_H") == 0)
+        name_in(line, name);
+        if (*name == 0 || strcmp(name, "SSP_H") == 0 ||
+            strcmp(name, "SSP_NAMES_H") == 0)
             continue;
         names++;
         if (!was_held(name)) {
-            failures++;
+            held_wrong++;
             printf("header: %s is held to nothing\n", name);
         }
     }
@@ -561,20 +780,29 @@ static unsigned read_header(const char *path)
 
 int main(int count, char **words)
 {
-    unsigned names;
+    const char *folder = count > 1 ? words[1] : "include";
+    unsigned numbers, names;
 
     hold_lengths();
     hold_kinds();
     hold_channels();
+    hold_values();
     hold_commands();
+    hold_modes();
     hold_streams();
+    hold_samples();
     hold_flags();
     hold_words();
     hold_replies();
     hold_reader_replies();
-    names = read_header(count > 1 ? words[1] : "include/ssp.h");
-    failures += names < 50; /* the header was not read */
-    printf("header: %u names of the header held to the library, %u wrong\n",
-           names, failures);
-    return failures != 0;
+    hold_promise();
+    hold_layouts();
+    hold_names();
+    hold_version(count > 2 ? words[2] : "CHANGELOG.md");
+    numbers = read_header(folder, "ssp.h");
+    names = read_header(folder, "ssp_names.h");
+    held_wrong += numbers < 100 || names < 8; /* a header was not read */
+    printf("header: %u numbers and %u lists of names held to the library, "
+           "%u wrong\n", numbers, names, held_wrong);
+    return held_wrong != 0;
 }

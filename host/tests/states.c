@@ -197,10 +197,10 @@ static bool damaged(const struct machine *m)
 
 static size_t written_by_frame(const struct probe *p, int reply)
 {
-    if (reply != SSP_ACCEPTED)
+    if (reply != SSP_CONTROLLER_ACCEPTED)
         return 0;
     return p->bytes[0] == SSP_POLL     ? SSP_PACKET_BYTES
-           : p->bytes[0] == SSP_STATUS ? SSP_STATUS_BYTES
+           : p->bytes[0] == SSP_STATUS ? SSP_STATUS_WORD_BYTES
                                        : 0;
 }
 
@@ -254,7 +254,8 @@ static void lived_reader(uint8_t *state)
 
 static struct machine controller = {
     "the controller", ssp_start, ssp_frame, SSP_STATE_BYTES, SSP_OUT_BYTES,
-    SSP_UNFIT_STATE, SSP_SHORT_OUTPUT, COVER_STATE_LENGTHS, COVER_OUT_LENGTHS,
+    SSP_CONTROLLER_UNFIT_STATE, SSP_CONTROLLER_SHORT_OUTPUT,
+    COVER_STATE_LENGTHS, COVER_OUT_LENGTHS,
     COVER_STATE_10, COVER_STATE_BEHAVES, lived_controller, written_by_frame,
     {{{0}, 0}}, 0};
 

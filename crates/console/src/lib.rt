@@ -119,6 +119,16 @@ fn run(
     }
 }
 
+// The programs take no arguments: to any, says how a program is used on standard error, and answers true, so that nobody waits for
+// a program that waits for standard input.
+pub fn explained(usage: &[u8]) -> bool {
+    if os::arg_count() > 1 {
+        io::write_all(STDERR_FILENO, usage);
+        return true;
+    }
+    false
+}
+
 // Serves standard input to its end, from a state that was started.
 fn serve(machine: Machine, state: &mut [u8])
     requires { ⌜ now state ≡ begun machine ⌝ }

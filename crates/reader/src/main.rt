@@ -6,5 +6,10 @@
 // is wrong, the right one then a repeat, and the next one whole, in small letters; an impact record of seven pieces, its last line
 // without an LF.
 fn main() {
+    if console::explained(
+        b"usage: reader <PACKETS\nreader takes no arguments: it reads packets from standard input, a line each in hexadecimal.\n",
+    ) {
+        return;
+    }
     console::serve_reader();
 }
