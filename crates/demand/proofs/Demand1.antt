@@ -32,11 +32,11 @@ use Rattle.shelf.specs.Received.{readOf}
 use Rattle.shelf.specs.Runs.{readsOf}
 use Rattle.shelf.proofs.Fresh as fresh
 use Rattle.shelf.proofs.Refusals.{kept, output, unfit as unfit-told}
-use Rattle.lent.proofs.Fitting.{fitting-true}
+use Rattle.lent.proofs.Fitting.{fitting-true, other-mark}
 use Rattle.shelf.proofs.Steps.{received-view}
 use Rattle.shelf.proofs.Leaves.{later-bytes, output-past, moved-on}
 use Rattle.shelf.proofs.Runs.{never-25}
-use Rattle.demand.specs.Refusing.{found, Starts, Demand1}
+use Rattle.demand.specs.Refusing.{found, Starts, Apart, Demand1}
 
 -- ---- the controller
 
@@ -159,6 +159,20 @@ hears : (s f o : List ℕ) → fitReader s ≡ true → readOf s f o .reply ≡ 
 unfolding readOf
 hears s f o e = rw e
 
+-- ---- one's bytes handed to the other
+
+controllers : (s f o : List ℕ) → fit s ≡ true → readOf s f o ≡ res 25 o s
+controllers s f o h =
+    unfit-told s f o
+    (other-mark readerBytes readerMark s
+    (λ e. eqb-false controllerMark readerMark refl (sym (fitting-true stateBytes controllerMark s h .mark) ∙ e)))
+
+readers : (s f o : List ℕ) → fitReader s ≡ true → stepOf s f o ≡ res 10 o s
+unfolding stepOf
+readers s f o h =
+    rw (other-mark stateBytes controllerMark s
+    (λ e. eqb-false readerMark controllerMark refl (sym (fitting-true readerBytes readerMark s h .mark) ∙ e)))
+
 pub demand1 : Demand1
 demand1 =
     record {
@@ -186,4 +200,5 @@ demand1 =
             moved-on = moved-on;
             never-25 = λ s h xs b. ap (λ (t : Told). fitReader (readsOf (t .state) xs)) (reader-begun s h) ∙ never-25 s h xs b;
           };
+      apart = record { controllers = controllers; readers = readers };
     }
