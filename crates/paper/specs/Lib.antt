@@ -1,4 +1,4 @@
--- Document 01, the base, as definitions. Its sections, in its order, and the modules that render them:
+-- Document 01, the base, as definitions (its facts in words: docs/RULES.md). Its sections, in its order, and the modules that render them:
 --   Frames                       Frames
 --   What the controller replies  Step: when each reply is given, their order, what a refusal changes, one call
 --   Time and mode                Clock, Mode
