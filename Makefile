@@ -32,14 +32,18 @@ host:
 # What is unchanged is not proved again: rt decides that, here and in install, so that no old library is ever taken.
 soak:
 	@host/scripts/tools rt make cc run
-	@host/scripts/build ssp
+	@host/scripts/build library
 	$(MAKE) -C host soak ROUNDS=$(ROUNDS)
 
 measure:
 	host/measure/run
 
-install uninstall:
-	@host/scripts/$@
+install:
+	@host/scripts/build library programs
+	@host/scripts/install
+
+uninstall:
+	@host/scripts/uninstall
 
 clean:
 	rm -rf target
