@@ -51,12 +51,12 @@ static void tell_frame(const struct told *t)
     unsigned kind = t->length > 0 ? t->frame[0] : 0;
 
     printf("%s", t->length == 0 ? "an empty line" : ssp_kind_name(kind));
-    if (kind == SSP_BROADCAST) {
+    if (kind == SSP_BROADCAST && t->length == SSP_BROADCAST_FRAME_BYTES) {
         printf(", T %lu s, altitude ",
                seconds_of(number(t->frame + BROADCAST_TIME_AT, 2)));
         print_altitude(number(t->frame + BROADCAST_ALTITUDE_AT, 2), 0);
     }
-    if (kind == SSP_COMMAND)
+    if (kind == SSP_COMMAND && t->length >= SSP_COMMAND_FRAME_BYTES)
         printf(" %04lX, %s", number(t->frame + COMMAND_ID_AT, 2),
                ssp_command_name((unsigned)number(t->frame + COMMAND_ID_AT, 2)));
     printf(" -> ");
