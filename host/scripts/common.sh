@@ -31,7 +31,7 @@ proving() {
     local line all seen=0 anew=0 began=$SECONDS last=target/proving.last
     mkdir -p target
     all=$(crates_of "${@:2}")
-    echo "  $all crates; those unchanged since they were proved are not proved again. From nothing it is about five minutes on two cores$(
+    echo "  $all crates; those unchanged since they were proved are not proved again. From nothing it is five to ten minutes on two cores$(
         [ ! -s $last ] || printf ' (the last time here: %s)' "$(cat $last)")."
     rt "$@" 2>&1 | tee target/proving.log | {
         while IFS= read -r line; do
