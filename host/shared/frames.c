@@ -102,14 +102,20 @@ size_t frame_analogue(uint8_t *bytes, unsigned seed)
 
 /* "Streams and packets", by number. */
 static const struct {
-    uint16_t sample, pieces, listed;
-} table[12] = {[0x2] = {0, 7, 776}, [0x4] = {3, 1, 116}, [0x5] = {2, 1, 116},
-               [0x6] = {3, 1, 116}, [0x9] = {6, 1, 116}, [0xA] = {0, 1, 118},
-               [0xB] = {512, 5, 520}};
+    uint16_t sample, samples, pieces, listed;
+} table[12] = {[0x2] = {0, 0, 7, 776},   [0x4] = {3, 36, 1, 116},
+               [0x5] = {2, 72, 1, 116},  [0x6] = {3, 36, 1, 116},
+               [0x9] = {6, 18, 1, 116},  [0xA] = {0, 0, 1, 118},
+               [0xB] = {512, 1, 5, 520}};
 
 unsigned sample_size(unsigned stream)
 {
     return stream < 12 ? table[stream].sample : 0;
+}
+
+unsigned stream_samples(unsigned stream)
+{
+    return stream < 12 ? table[stream].samples : 0;
 }
 
 unsigned stream_pieces(unsigned stream)

@@ -33,9 +33,10 @@ size_t frame_status(uint8_t *bytes, unsigned channel, unsigned low,
                     unsigned flags);
 size_t frame_analogue(uint8_t *bytes, unsigned seed);
 
-/* The bytes of a sample of a stream in a sample frame; 0 where there are no
- * sample frames. */
+/* The bytes of a sample of a stream in a sample frame, and how many samples
+ * fill its datastream packet; 0 where there are no sample frames. */
 unsigned sample_size(unsigned stream);
+unsigned stream_samples(unsigned stream);
 
 /* The pieces of a stream's datastream packet, and its listed length; 0 where
  * the stream is not carried. */

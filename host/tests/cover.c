@@ -20,7 +20,8 @@ enum situation {
     BROADCASTS_B_WRAP, PACKETS_A_WRAP, PACKETS_B_WRAP, TELEMETRY_A_WRAP,
     TELEMETRY_B_WRAP, TELEMETRY_16384, LATE_BROADCAST,
     MISSING_NONE, MISSING_SOME, MISSING_MOST_FIRST, MISSING_MOST_BETWEEN,
-    ARRIVED_WHOLE, ARRIVED_PART, SITUATIONS
+    ARRIVED_WHOLE, ARRIVED_PART, SHORT_AT_LAST, DEN_0FFF, DEN_1000,
+    ID_NEAR, SITUATIONS
 };
 
 static const char *const situation_names[SITUATIONS] = {
@@ -43,7 +44,9 @@ static const char *const situation_names[SITUATIONS] = {
     "65,536th poll on B", "16,384th poll", "broadcast back in time",
     "arrival right after the last", "arrival after some went missing",
     "first arrival after 4,094 missing", "arrival after 4,094 missing",
-    "a packet arrived whole", "a piece arrived, its packet not yet or never"};
+    "a packet arrived whole", "a piece arrived, its packet not yet or never",
+    "finishing piece refused with 24", "DEN sample of 0FFF",
+    "DEN sample of 1000", "packet whose ID is wrong in one bit"};
 
 static unsigned long situations[SITUATIONS];
 
@@ -54,7 +57,11 @@ static const char *const outside_names[COVER_OUTSIDE] = {
     "reader's output of each length to past the least",
     "damaged state refused with 10", "damaged state that behaves",
     "damaged reader's state refused with 25",
-    "damaged reader's state that behaves"};
+    "damaged reader's state that behaves",
+    "state so long that its length wraps to a short one",
+    "output so long that its length wraps to a short one",
+    "reader's state so long that its length wraps to a short one",
+    "reader's output so long that its length wraps to a short one"};
 
 static unsigned long outside[COVER_OUTSIDE];
 
@@ -89,6 +96,26 @@ static unsigned long past_4096[12];        /* pieces, by stream */
 static const unsigned distances[] = {0, 1, 2, 5, 6, 7, 8, 4095};
 enum { DISTANCES = sizeof distances / sizeof *distances };
 static unsigned long steps[12][DISTANCES]; /* d, by stream */
+
+/* Pieces at later places that open with 88 88, and with 99 99, by stream and
+ * by what became of the gathering. */
+enum onward { GOES_ON, DROPPED, NONE_RAN, CAME_AGAIN, ONWARDS };
+static unsigned long opened[12][2][ONWARDS];
+
+/* Lengths that are wrong, but right after they wrapped at these. */
+static const unsigned wraps[] = {256, 512, 1024, 65536};
+enum { WRAPS = sizeof wraps / sizeof *wraps, PACKETS = 0 };
+static unsigned long wrapped[8][WRAPS];      /* frames by kind; packets */
+static unsigned long out_wrapped[2][WRAPS];  /* ssp_frame, the reader */
+
+/* "Tested in the order": by kind, the reply given and one behind it. */
+static const unsigned in_order[] = {8, 1, 2, 3, 4, 5, 6, 7, 9};
+enum { ORDERED = sizeof in_order / sizeof *in_order };
+static unsigned long together[8][10][10];
+
+static const unsigned in_readers_order[] = {24, 20, 21, 22};
+enum { READERS_ORDERED = sizeof in_readers_order / sizeof *in_readers_order };
+static unsigned long readers_together[READERS_ORDERED][READERS_ORDERED];
 
 /* --------------------------------------------------------------- frames */
 
@@ -183,13 +210,144 @@ static void cover_command(const struct play_before *b, const uint8_t *frame)
     }
 }
 
-static void cover_frame(const struct play_before *b,
-                        const struct model_controller *a, const uint8_t *frame,
-                        size_t n, int reply)
+/* The length of a right frame that begins so; 0 where there is none. */
+static size_t right_length(const uint8_t *frame, size_t n)
 {
+    static const unsigned char lengths[8] = {0, 8, 8, 3, 2, 2, 4, 59};
+
+    if (frame[0] == 2 && n >= 4 && frame[3] == HOUSEKEEPING_ID)
+        return 6;
+    if (frame[0] == 4 && n >= 2)
+        return 2 + sample_size(frame[1]);
+    return frame[0] < 8 ? lengths[frame[0]] : 0;
+}
+
+static void cover_wrap(unsigned long *counts, size_t n, size_t right)
+{
+    unsigned i;
+
+    for (i = 0; i < WRAPS; i++)
+        counts[i] += n > right && n % wraps[i] == right % wraps[i];
+}
+
+static void cover_out_wrap(unsigned long *counts, size_t n, size_t least)
+{
+    unsigned i;
+
+    for (i = 0; i < WRAPS; i++)
+        counts[i] += n >= least && n % wraps[i] < least;
+}
+
+static bool channel_known(const uint8_t *frame, size_t n)
+{
+    return n >= 2 && (frame[1] == 0x0A || frame[1] == 0x0B);
+}
+
+/* Which replies a command would get if each were asked for alone: a bit each.
+ * No room is what would refuse housekeeping, whatever the command is. */
+static unsigned applying_to_command(const struct play_before *b,
+                                    const uint8_t *frame, size_t n)
+{
+    unsigned bits = n < 6 || !channel_known(frame, n) ? 1u << 1 : 0;
+    unsigned id, value = 0;
+
+    bits |= b->waiting == MODEL_SLOTS ? 1u << 7 : 0;
+    if (n < 6)
+        return bits;
+    id = (unsigned)number(frame + 2, 2);
+    if (n >= 8)
+        value = (unsigned)number(frame + 6, 2);
+    if (id != CLEAR_STREAMS_ID && id != HOUSEKEEPING_ID && id != SET_MODE_ID)
+        return bits | 1u << 2;
+    if (n != (id == HOUSEKEEPING_ID ? 6 : 8))
+        bits |= 1u << 3;
+    if ((id == CLEAR_STREAMS_ID && (value & ~0x0E74u) != 0) ||
+        (id == SET_MODE_ID && value > 15))
+        bits |= 1u << 4;
+    return bits;
+}
+
+static unsigned applying_to_sample(const struct play_before *b,
+                                   const uint8_t *frame, size_t n)
+{
+    unsigned stream, pieces, bits = 0;
+
+    if (n < 2)
+        return 1u << 1;
+    stream = frame[1];
+    pieces = 1;
+    if (sample_size(stream) == 0) {
+        bits |= 1u << 2;
+    } else {
+        pieces = stream_pieces(stream);
+        bits |= n != 2 + sample_size(stream) ? 1u << 3 : 0;
+        if (stream == 5 && n >= 4 && number(frame + 2, 2) > 0x0FFF)
+            bits |= 1u << 4;
+    }
+    if (stream == 11 ? b->mode != 5 : b->mode < 1 || b->mode > 6)
+        bits |= 1u << 6;
+    if ((bits & 1u << 2 || b->lacking >> stream & 1) &&
+        b->waiting + pieces > MODEL_SLOTS)
+        bits |= 1u << 7;
+    return bits;
+}
+
+static unsigned applying(const struct play_before *b, const uint8_t *frame,
+                         size_t n)
+{
+    switch (n == 0 ? 0 : frame[0]) {
+    case 1:
+        return (n != 8 || !channel_known(frame, n) ? 1u << 1 : 0) |
+               (n >= 4 && number(frame + 2, 2) / 4 < b->seconds ? 1u << 5 : 0);
+    case 2:
+        return applying_to_command(b, frame, n);
+    case 3:
+        return (n != 3 ? 1u << 1 : 0) |
+               (n >= 3 && number(frame + 1, 2) > 4095 ? 1u << 4 : 0) |
+               (b->collecting && b->further == 447 &&
+                b->waiting + 7 > MODEL_SLOTS ? 1u << 7 : 0);
+    case 4:
+        return applying_to_sample(b, frame, n);
+    case 5:
+        return (n != 2 || !channel_known(frame, n) ? 1u << 1 : 0) |
+               (b->waiting == 0 ? 1u << 9 : 0);
+    case 6:
+        return n != 4 || !channel_known(frame, n) ? 1u << 1 : 0;
+    case 7:
+        return n != 59 ? 1u << 1 : 0;
+    default:
+        return 1u << 1;
+    }
+}
+
+static void cover_order(const struct play_before *b, unsigned kind,
+                        const struct play_given *g, int reply)
+{
+    unsigned bits = applying(b, g->bytes, g->length), i;
+
+    if (reply == 0)
+        return;
+    for (i = 1; i < 10; i++)
+        together[kind][reply][i] += (int)i != reply && (bits >> i & 1) != 0;
+}
+
+static void cover_frame(const struct play_before *b,
+                        const struct model_controller *a,
+                        const struct play_given *g, int reply)
+{
+    const uint8_t *frame = g->bytes;
+    size_t n = g->length;
     unsigned kind = n > 0 && frame[0] < 8 ? frame[0] : 0, stream;
 
     replies[kind][reply]++;
+    cover_order(b, kind, g, reply);
+    cover_out_wrap(out_wrapped[0], g->out_length, 126);
+    if (kind != 0 && reply != 8)
+        cover_wrap(wrapped[kind], n, right_length(frame, n));
+    if (kind == 4 && n == 4 && frame[1] == 5) {
+        came(DEN_0FFF, reply == 0 && number(frame + 2, 2) == 0x0FFF);
+        came(DEN_1000, reply == 4 && number(frame + 2, 2) == 0x1000);
+    }
     cover_counts(b, a);
     came(QUEUE_FULL, a->waiting == MODEL_SLOTS);
     came(MODE_CHANGE_OPEN, b->open && a->mode != b->mode);
@@ -207,21 +365,88 @@ static void cover_frame(const struct play_before *b,
 
 /* -------------------------------------------------------------- packets */
 
-static void cover_packet(const struct play_before *b,
-                         const struct model_reader *a, const uint8_t *packet,
-                         size_t n, int reply)
+static bool carried(unsigned stream)
 {
+    return stream_pieces(stream) > 0;
+}
+
+/* Whether the head is wrong: ID, top two sequence bits, or length. */
+static bool wrong_head(const uint8_t *packet)
+{
+    unsigned long id = number(packet, 2);
+
+    return (id != 0x0F94 && id != 0x0FB4) || packet[2] >> 6 != 3 ||
+           number(packet + 4, 2) != 0x77;
+}
+
+/* Which of 24, 20, 21 and 22 a packet would get if each were asked alone. */
+static void cover_readers_order(const struct play_before *b,
+                                const struct play_given *g, int reply)
+{
+    const uint8_t *packet = g->bytes;
+    bool judged = g->length >= 8;
+    unsigned stream = judged ? packet[7] % 16 : 0, i;
+    bool applies[READERS_ORDERED];
+
+    applies[0] = g->out_length < MODEL_LONGEST;
+    applies[1] = g->length != 126 || wrong_head(packet);
+    applies[2] = judged && !carried(stream);
+    applies[3] = judged && carried(stream) &&
+                 number(packet + 6, 2) / 16 == b->record.last;
+    for (i = 0; i < READERS_ORDERED; i++)
+        if ((unsigned)reply == in_readers_order[i]) {
+            unsigned other;
+            for (other = 0; other < READERS_ORDERED; other++)
+                readers_together[i][other] += other != i && applies[other];
+        }
+}
+
+/* A later piece that opens like a packet's start or end. */
+static void cover_opening(const struct play_before *b,
+                          const struct model_record *after,
+                          const uint8_t *packet, unsigned stream)
+{
+    enum onward onward = after->last == b->record.last ? CAME_AGAIN
+                         : !b->record.gathering        ? NONE_RAN
+                         : after->last == (b->record.last + 1) % 4096
+                             ? GOES_ON
+                             : DROPPED;
+
+    if (after->place == 0 || packet[8] != packet[9])
+        return;
+    opened[stream][0][onward] += packet[8] == 0x88;
+    opened[stream][1][onward] += packet[8] == 0x99;
+}
+
+static void cover_packet(const struct play_before *b,
+                         const struct model_reader *a,
+                         const struct play_given *g, int reply)
+{
+    const uint8_t *packet = g->bytes;
     unsigned stream, d, i;
 
-    (void)a;
     reader_replies[reply]++;
-    if (reply == 20 || reply == 21 || reply == 24)
+    cover_readers_order(b, g, reply);
+    cover_out_wrap(out_wrapped[1], g->out_length, MODEL_LONGEST);
+    if (g->length >= 126 && !wrong_head(packet))
+        cover_wrap(wrapped[PACKETS], g->length, 126);
+    if (g->length == 126)
+        came(ID_NEAR, reply == 20 && packet[0] == 0x0F &&
+                          ((packet[1] ^ 0x94) & ((packet[1] ^ 0x94) - 1)) == 0);
+    if (reply == 20 || reply == 21)
         return;
-    (void)n;
     stream = packet[7] % 16;
     d = ((unsigned)number(packet + 6, 2) / 16 + 4096 - b->record.last) % 4096;
+    if (reply == 24) {
+        came(SHORT_AT_LAST, g->length == 126 && !wrong_head(packet) &&
+                                carried(stream) && b->record.gathering &&
+                                d == 1 &&
+                                b->record.place + 2u == stream_pieces(stream));
+        return;
+    }
     for (i = 0; i < DISTANCES; i++)
         steps[stream][i] += d == distances[i];
+    cover_opening(b, &a->records[stream], packet, stream);
 }
 
 static void cover_arrival(bool whole, bool first, uint64_t missing)
@@ -266,6 +491,86 @@ static void report_replies(void)
         snprintf(name, sizeof name, "the reader's reply %u", readers[reply]);
         line(reader_replies[readers[reply]], name);
     }
+}
+
+/* Two replies of a kind that one frame can have earned.  An unknown id or
+ * stream has no length and no range; a sample frame of a wrong size has no
+ * stream. */
+static bool can_meet(unsigned kind, unsigned reply, unsigned other)
+{
+    if (!may[kind][reply] || !may[kind][other])
+        return false;
+    if (reply == 2 && (other == 3 || other == 4))
+        return false;
+    return kind != 4 || reply != 1;
+}
+
+static void report_order(void)
+{
+    char name[80];
+    unsigned kind, i, j;
+
+    for (kind = 0; kind < 8; kind++)
+        for (i = 0; i < ORDERED; i++)
+            for (j = i + 1; j < ORDERED; j++)
+                if (can_meet(kind, in_order[i], in_order[j])) {
+                    snprintf(name, sizeof name,
+                             "kind %u, reply %u where %u applies too", kind,
+                             in_order[i], in_order[j]);
+                    line(together[kind][in_order[i]][in_order[j]], name);
+                }
+    for (i = 0; i < READERS_ORDERED; i++)
+        for (j = i + 1; j < READERS_ORDERED; j++) {
+            if (in_readers_order[i] == 21) /* no count to be repeated */
+                continue;
+            snprintf(name, sizeof name,
+                     "the reader's reply %u where %u applies too",
+                     in_readers_order[i], in_readers_order[j]);
+            line(readers_together[i][j], name);
+        }
+}
+
+static void report_lengths(void)
+{
+    char name[80];
+    unsigned kind, i;
+
+    for (i = 0; i < WRAPS; i++) {
+        for (kind = 0; kind < 8; kind++) {
+            if (kind == PACKETS)
+                snprintf(name, sizeof name,
+                         "packet, length right modulo %u alone", wraps[i]);
+            else
+                snprintf(name, sizeof name,
+                         "kind %u, length right modulo %u alone", kind,
+                         wraps[i]);
+            line(wrapped[kind][i], name);
+        }
+        snprintf(name, sizeof name, "output short modulo %u alone", wraps[i]);
+        line(out_wrapped[0][i], name);
+        snprintf(name, sizeof name, "reader's output short modulo %u alone",
+                 wraps[i]);
+        line(out_wrapped[1][i], name);
+    }
+}
+
+static void report_openings(void)
+{
+    static const char *const onwards[ONWARDS] = {
+        "its gathering goes on", "its gathering is dropped",
+        "no gathering runs", "it came before"};
+    static const unsigned longs[] = {2, 11};
+    char name[80];
+    unsigned i, which, onward;
+
+    for (i = 0; i < 2; i++)
+        for (which = 0; which < 2; which++)
+            for (onward = 0; onward < ONWARDS; onward++) {
+                snprintf(name, sizeof name,
+                         "stream %X, later piece opens with %s, %s", longs[i],
+                         which == 0 ? "88 88" : "99 99", onwards[onward]);
+                line(opened[longs[i]][which][onward], name);
+            }
 }
 
 static void report_modes(void)
@@ -323,8 +628,11 @@ bool cover_report(void)
 
     all_came = true;
     report_replies();
+    report_order();
+    report_lengths();
     report_modes();
     report_streams();
+    report_openings();
     for (i = 0; i < SITUATIONS; i++)
         line(situations[i], situation_names[i]);
     for (i = 0; i < COVER_OUTSIDE; i++)

@@ -15,16 +15,18 @@
 #include "frames.h"
 #include "guard.h"
 #include "ledger.h"
+#include "random.h"
 
 enum {
-    OUT_MOST = 1024,
     TAIL = 16,
+    SHOWN_MOST = 600,     /* bytes of a step that are printed */
     SHRINK_SECONDS = 60,
     LOOK_EVERY = 50000,   /* steps; a session that hangs ends by a look */
     STEPS_MOST = 5000000
 };
 
 unsigned long play_frames, play_packets, play_looks;
+uint64_t play_digest = 0xCBF29CE484222325u;
 
 static const struct play_watcher *watcher;
 static bool replaying;
@@ -84,7 +86,7 @@ struct lent {
 };
 
 static struct guard read_only, out_room;
-static uint8_t model_out[OUT_MOST + TAIL];
+static uint8_t model_out[PLAY_OUT_MOST + TAIL];
 static unsigned fill; /* of outputs, another at each call */
 static bool at_end; /* frames and outputs: at their room's end, or its front */
 
@@ -237,8 +239,9 @@ static int comes(const uint8_t *packet, size_t n, size_t out_length)
         before.record = reader.model.records[stream];
     reply = exchange_packet(&reader, packet, n, out_length);
     if (!replaying) {
+        struct play_given given = {packet, n, out_length};
         play_packets++;
-        watcher->packet(&before, &reader.model, packet, n, reply);
+        watcher->packet(&before, &reader.model, &given, reply);
     }
     return reply;
 }
@@ -391,7 +394,7 @@ enum kind { FRAME, PACKET, AGAIN, LOOK };
 
 struct step {
     uint8_t kind, fate;
-    uint16_t length, out_length;
+    uint32_t length, out_length;
     size_t at; /* where its bytes stand */
 };
 
@@ -419,6 +422,31 @@ static void *grown(void *memory, size_t size)
     return larger;
 }
 
+/* FNV-1a, 64 bits. */
+static void digest_byte(uint8_t byte)
+{
+    play_digest = (play_digest ^ byte) * 0x100000001B3u;
+}
+
+static void digest_number(uint64_t value)
+{
+    unsigned i;
+
+    for (i = 0; i < 8; i++)
+        digest_byte((uint8_t)(value >> 8 * i));
+}
+
+static void digest_step(const struct step *s)
+{
+    size_t i;
+
+    digest_byte(s->kind);
+    digest_byte(s->fate);
+    digest_number((uint64_t)s->length << 32 | s->out_length);
+    for (i = 0; i < s->length; i++)
+        digest_byte(bytes_of(s)[i]);
+}
+
 static const struct step *note(enum kind kind, const uint8_t *bytes, size_t n,
                                size_t out_length, unsigned fate)
 {
@@ -429,18 +457,19 @@ static const struct step *note(enum kind kind, const uint8_t *bytes, size_t n,
         noted.steps = grown(noted.steps, noted.room * sizeof *noted.steps);
     }
     if (noted.used + n > noted.bytes_room) {
-        noted.bytes_room = noted.bytes_room * 2 + 65536;
+        noted.bytes_room = noted.bytes_room * 2 + n;
         noted.bytes = grown(noted.bytes, noted.bytes_room);
     }
     s = &noted.steps[noted.count++];
     s->kind = (uint8_t)kind;
     s->fate = (uint8_t)fate;
-    s->length = (uint16_t)n;
-    s->out_length = (uint16_t)out_length;
+    s->length = (uint32_t)n;
+    s->out_length = (uint32_t)out_length;
     s->at = noted.used;
     if (n > 0)
         memcpy(noted.bytes + noted.used, bytes, n);
     noted.used += n;
+    digest_step(s);
     return s;
 }
 
@@ -467,8 +496,11 @@ static void found_in(struct play_before *b, const struct model_controller *c)
         b->counts[5 + i] = c->telemetry_count[i];
     }
     b->error_count = c->error_count;
-    for (i = 0; i < MODEL_STREAMS; i++)
+    for (i = 0; i < MODEL_STREAMS; i++) {
         b->open |= c->open[i].kept > 0;
+        if (stream_samples(i) == c->open[i].kept + 1u)
+            b->lacking |= 1u << i;
+    }
 }
 
 static int do_frame(const struct step *s)
@@ -480,8 +512,9 @@ static int do_frame(const struct step *s)
     found_in(&before, &played.model);
     reply = exchange(&played, bytes_of(s), s->length, s->out_length);
     if (!replaying) {
+        struct play_given given = {bytes_of(s), s->length, s->out_length};
         play_frames++;
-        watcher->frame(&before, &played.model, bytes_of(s), s->length, reply);
+        watcher->frame(&before, &played.model, &given, reply);
     }
     if (reply == 0 && bytes_of(s)[0] == 5 && s->fate == CAME) {
         memcpy(packet, out_at(s->out_length), sizeof packet);
@@ -638,12 +671,14 @@ static void print_step(const struct step *s)
     printf("  %s ", names[s->kind]);
     if (s->kind == AGAIN)
         printf("%X", s->fate);
-    for (i = 0; i < s->length; i++)
+    for (i = 0; i < s->length && i < SHOWN_MOST; i++)
         printf("%02X", bytes_of(s)[i]);
+    if (s->length > SHOWN_MOST)
+        printf("... (%lu bytes)", (unsigned long)s->length);
     if (s->kind == FRAME && s->length > 0 && bytes_of(s)[0] == 5)
         printf(s->fate == CAME ? " (to the reader)" : " (lost)");
     if (s->kind <= PACKET)
-        printf(" (output of %u)", s->out_length);
+        printf(" (output of %lu)", (unsigned long)s->out_length);
     putchar('\n');
 }
 
@@ -681,6 +716,7 @@ bool play(const char *name, void (*session)(void))
     }
     start();
     session();
+    digest_number(random_next());
     play_look();
     rooms_hold();
     return true;
@@ -688,11 +724,15 @@ bool play(const char *name, void (*session)(void))
 
 bool play_test(const char *name, bool (*test)(void))
 {
+    bool right;
+
     if (sigsetjmp(out_of_step, 1) != 0) {
         printf("DIFFERENCE in %s: %s\n", name, difference);
         return false;
     }
-    return test();
+    right = test();
+    digest_number(random_next());
+    return right;
 }
 
 void play_make(const struct play_watcher *given)
@@ -703,8 +743,8 @@ void play_make(const struct play_watcher *given)
     guard_make(&played.lent.room, SSP_STATE_BYTES + TAIL);
     guard_make(&looked.lent.room, SSP_STATE_BYTES + TAIL);
     guard_make(&reader.lent.room, SSP_READER_BYTES + TAIL);
-    guard_make(&read_only, FRAME_MOST + 1024);
-    guard_make(&out_room, OUT_MOST + TAIL);
+    guard_make(&read_only, PLAY_LONGEST);
+    guard_make(&out_room, PLAY_OUT_MOST + TAIL);
     guard_make(&looked_reader.lent.room, SSP_READER_BYTES + TAIL);
     lend(&looked.lent, SSP_STATE_BYTES, 2);
     lend(&looked_reader.lent, SSP_READER_BYTES, 2);

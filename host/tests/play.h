@@ -10,6 +10,11 @@
 
 #include "model.h"
 
+enum {
+    PLAY_LONGEST = 70000,  /* bytes of a frame or a packet */
+    PLAY_OUT_MOST = 70000  /* bytes of an output */
+};
+
 enum fate { LOST, CAME }; /* whether a polled packet goes to the reader */
 
 /* What a step found the model in. */
@@ -22,16 +27,23 @@ struct play_before {
     uint16_t counts[7];         /* command; broadcast, packet, telemetry AB */
     uint8_t error_count;
     bool open;                  /* samples stand in an open packet */
+    unsigned lacking;           /* a bit a stream whose packet lacks a sample */
+};
+
+/* The bytes that a step handed over, and the output it lent. */
+struct play_given {
+    const uint8_t *bytes;
+    size_t length, out_length;
 };
 
 /* Tells of every step that was played (not of those of a look). */
 struct play_watcher {
     void (*frame)(const struct play_before *before,
-                  const struct model_controller *after, const uint8_t *frame,
-                  size_t length, int reply);
+                  const struct model_controller *after,
+                  const struct play_given *given, int reply);
     void (*packet)(const struct play_before *before,
-                   const struct model_reader *after, const uint8_t *packet,
-                   size_t length, int reply);
+                   const struct model_reader *after,
+                   const struct play_given *given, int reply);
     void (*arrival)(bool whole, bool first, uint64_t missing);
 };
 
@@ -65,5 +77,10 @@ const struct model_controller *play_controller(void);
 const struct model_reader *play_reader(void);
 
 extern unsigned long play_frames, play_packets, play_looks;
+
+/* A number that follows from every step made so far, in order: its bytes and
+ * lengths, and how many random numbers were drawn.  The same seed gives the
+ * same number with every compiler. */
+extern uint64_t play_digest;
 
 #endif

@@ -1,9 +1,15 @@
 /* sessions.c: the sequences on which library and model are compared.  Each is
  * made while it is played, biased by what the model then holds to what random
- * frames do not reach.  In this order: giving, single frames, mixed frames,
- * edges of queue and time, long counts, the way to the reader, packets from
- * nowhere. */
+ * frames do not reach.  In this order: lengths, data like sync bytes, giving,
+ * single frames, mixed frames, several refusals at once, edges of queue and
+ * time, long counts, the way to the reader, packets from nowhere, long frames
+ * and packets.
+ *
+ * No expression draws two random numbers: C leaves open in which order they
+ * would be drawn, and each compiler would play other sequences. */
 #include "sessions.h"
+
+#include <string.h>
 
 #include "frames.h"
 #include "play.h"
@@ -12,24 +18,110 @@
 static const unsigned streams[] = {2, 4, 5, 6, 9, 10, 11};
 static const unsigned sampled[] = {4, 5, 6, 9};
 
+/* -------------------------------------------------------------- lengths */
+
+/* What a length may be too long by where it is kept in 8, 9, 10, 11, 12 or 16
+ * bits. */
+static const unsigned wraps[] = {256, 512, 1024, 2048, 4096, 65536};
+enum { WRAPS = sizeof wraps / sizeof *wraps };
+
+/* The length of an output: short, longer, at the least, or so long that what
+ * is left of it after a wrap is short. */
+static size_t some_output(unsigned least)
+{
+    unsigned wrap;
+
+    switch (below(8)) {
+    case 0:
+    case 1:
+    case 2:
+        return below(least);
+    case 3:
+    case 4:
+    case 5:
+        return least + below(200);
+    case 6:
+        return least - 1 + below(3);
+    default:
+        wrap = ONE_OF(wraps);
+        return wrap + below(least);
+    }
+}
+
+/* ------------------------------------------------- data like sync bytes */
+
+/* A datastream packet's start is known by its place: the bytes 88 88 and
+ * 99 99 are in data too, where they tempt most at the ends of pieces. */
+static const unsigned sync[] = {0x88, 0x99};
+
+/* Two bytes of an ACC-E sample, by their place in the datastream packet. */
+static void sync_at(uint8_t *frame, unsigned at)
+{
+    memset(frame + at - 4, (int)ONE_OF(sync), 2);
+}
+
+/* Sync bytes at the ends of some pieces' data, or all over the sample. */
+static void sync_in_sample(uint8_t *frame, unsigned stream)
+{
+    unsigned place;
+
+    if (stream != 11 || once_in(4)) {
+        memset(frame + 2, (int)ONE_OF(sync), sample_size(stream));
+        if (stream == 5)
+            frame[2] &= 0x0F;
+        return;
+    }
+    for (place = 0; place < 5; place++) {
+        if (!once_in(3))
+            sync_at(frame, place == 0 ? 6 : 118 * place);
+        if (once_in(3))
+            sync_at(frame, place == 4 ? 516 : 118 * place + 116);
+    }
+}
+
+static size_t right_sample(uint8_t *frame, unsigned stream)
+{
+    size_t n = frame_sample(frame, stream, below(100000));
+
+    if (sample_size(stream) > 0 && once_in(stream == 11 ? 2 : 16))
+        sync_in_sample(frame, stream);
+    return n;
+}
+
+/* Sync bytes at the ends of a later piece, where those are data. */
+static void sync_in_piece(uint8_t *packet, unsigned stream, unsigned place)
+{
+    if (place == 0)
+        return;
+    if (!once_in(3))
+        memset(packet + 8, (int)ONE_OF(sync), 2);
+    if (place + 1 < stream_pieces(stream) && once_in(3))
+        memset(packet + 124, (int)ONE_OF(sync), 2);
+}
+
 /* --------------------------------------------------------------- giving */
 
 static unsigned lost_in_hundred; /* of the polled packets */
+
+static int give_with(const uint8_t *frame, size_t n, size_t out_length)
+{
+    enum fate fate = below(100) < lost_in_hundred ? LOST : CAME;
+
+    return play_frame(frame, n, out_length, fate);
+}
 
 static int give(const uint8_t *frame, size_t n)
 {
     size_t out_length = 126;
 
     if (once_in(64))
-        out_length = once_in(2) ? 126 + below(200) : below(126);
-    return play_frame(frame, n, out_length,
-                      below(100) < lost_in_hundred ? LOST : CAME);
+        out_length = some_output(126);
+    return give_with(frame, n, out_length);
 }
 
 static int give_exactly(const uint8_t *frame, size_t n)
 {
-    return play_frame(frame, n, 126,
-                      below(100) < lost_in_hundred ? LOST : CAME);
+    return give_with(frame, n, 126);
 }
 
 static int tick(unsigned reading)
@@ -42,8 +134,9 @@ static int tick(unsigned reading)
 static int order(unsigned id, unsigned value)
 {
     uint8_t frame[FRAME_MOST];
+    unsigned channel = below(2), sequence = below(65536);
 
-    return give_exactly(frame, frame_order(frame, below(2), id, below(65536),
+    return give_exactly(frame, frame_order(frame, channel, id, sequence,
                                            value));
 }
 
@@ -59,7 +152,7 @@ static int sample(unsigned stream)
 {
     uint8_t frame[FRAME_MOST];
 
-    return give_exactly(frame, frame_sample(frame, stream, below(100000)));
+    return give_exactly(frame, right_sample(frame, stream));
 }
 
 static int poll_on(unsigned channel)
@@ -80,7 +173,9 @@ static int broadcast_on(unsigned channel, unsigned seconds, unsigned altitude)
 
 static int broadcast(unsigned seconds, unsigned altitude)
 {
-    return broadcast_on(below(2), seconds, altitude);
+    unsigned channel = below(2);
+
+    return broadcast_on(channel, seconds, altitude);
 }
 
 static unsigned waiting(void)
@@ -100,11 +195,35 @@ static void bring_queue_to(unsigned pieces)
 /* Samples until a stream's open packet lacks one. */
 static void all_but_one(unsigned stream)
 {
-    static const unsigned per_packet[12] = {[4] = 36, [5] = 72, [6] = 36,
-                                            [9] = 18};
-
-    while (play_controller()->open[stream].kept + 1u < per_packet[stream])
+    while (play_controller()->open[stream].kept + 1u < stream_samples(stream))
         sample(stream);
+}
+
+/* In mode 4 (locked or not) up to the tick before the record's last.  A share
+ * of the readings comes in runs of 888 or 999, which pack to sync bytes. */
+static void collect(unsigned mode)
+{
+    static const unsigned packed[] = {0x888, 0x999};
+    unsigned i, run = 0, reading = 0;
+
+    order(SET_MODE_ID, mode);
+    for (i = below(600); i > 0; i--)
+        tick(below(81));
+    for (i = 0; i < 3; i++)
+        tick(81 + below(1000));
+    while (play_controller()->further < 447) {
+        if (run > 0) {
+            run--;
+        } else if (once_in(90)) {
+            run = below(240);
+            reading = ONE_OF(packed);
+        } else {
+            reading = below(200);
+            if (once_in(9))
+                reading = below(4096);
+        }
+        tick(reading);
+    }
 }
 
 /* -------------------------------------------------------- single frames */
@@ -114,17 +233,23 @@ static unsigned some_reading(void)
     static const unsigned edges[] = {0, 79, 80, 81, 82, 2047, 2048, 4095,
                                      4096, 65535};
 
-    return once_in(3) ? ONE_OF(edges) : once_in(4) ? below(4096) : below(120);
+    if (once_in(3))
+        return ONE_OF(edges);
+    if (once_in(4))
+        return below(4096);
+    return below(120);
 }
 
 static unsigned some_seconds(void)
 {
     static const unsigned edges[] = {599, 600, 5099, 5100, 7199, 7200};
     const struct model_controller *c = play_controller();
-    unsigned from = c->mode == 4   ? c->entry_time / 1024 + 1859
-                    : c->mode == 5 ? c->reference_second + 179u
-                                   : ONE_OF(edges);
+    unsigned from = ONE_OF(edges);
 
+    if (c->mode == 4)
+        from = c->entry_time / 1024 + 1859;
+    else if (c->mode == 5)
+        from = c->reference_second + 179u;
     if (once_in(12))
         return from + below(2);
     if (once_in(20) && c->seconds > 0)
@@ -137,25 +262,36 @@ static unsigned some_seconds(void)
 static size_t some_broadcast(uint8_t *frame)
 {
     static const unsigned altitudes[] = {0, 699, 700, 701, 702, 32767};
-    unsigned altitude = once_in(4) ? ONE_OF(altitudes) : 701 + below(32000);
+    unsigned channel = below(2), altitude = 701 + below(32000);
+    unsigned time = (some_seconds() & 0x3FFF) * 4;
 
-    return frame_broadcast(frame, below(2),
-                           (some_seconds() & 0x3FFF) * 4 + below(4),
-                           (altitude & 0x7FFF) + 0x8000 * below(2));
+    if (once_in(4))
+        altitude = ONE_OF(altitudes);
+    if (once_in(2))
+        altitude |= 0x8000;
+    time += below(4);
+    return frame_broadcast(frame, channel, time, altitude);
 }
 
 static size_t some_command(uint8_t *frame)
 {
     static const unsigned ids[] = {0x13, 0x16, 0x16, 0x16, 0x32, 0x33, 0x113};
     static const unsigned bits[] = {4, 0x10, 0x20, 0x40, 0x200, 0x400, 0x800};
-    unsigned id = ONE_OF(ids), value;
+    unsigned id = ONE_OF(ids), channel = below(2), sequence = below(65536);
+    unsigned value;
     size_t n;
 
-    if (id == SET_MODE_ID)
-        value = once_in(20) ? below(65536) : once_in(3) ? 4 : below(17);
-    else
-        value = once_in(10) ? below(65536) : ONE_OF(bits) | ONE_OF(bits);
-    n = frame_order(frame, below(2), id, below(65536), value);
+    if (id == SET_MODE_ID) {
+        value = below(17);
+        if (once_in(3))
+            value = 4;
+    } else {
+        value = ONE_OF(bits);
+        value |= ONE_OF(bits);
+    }
+    if (once_in(15))
+        value = below(65536);
+    n = frame_order(frame, channel, id, sequence, value);
     if (id == HOUSEKEEPING_ID)
         n -= 2;
     return n;
@@ -163,28 +299,36 @@ static size_t some_command(uint8_t *frame)
 
 static size_t some_sample(uint8_t *frame)
 {
-    unsigned stream = once_in(6)    ? 11
-                      : once_in(30) ? below(256)
-                                    : ONE_OF(sampled);
-    size_t n = frame_sample(frame, stream, below(100000));
+    static const unsigned edges[] = {0x0FFF, 0x1000, 0x1001, 0xFFFF};
+    unsigned stream = ONE_OF(sampled);
+    size_t n;
 
+    if (once_in(6))
+        stream = 11;
+    else if (once_in(30))
+        stream = below(256);
+    n = right_sample(frame, stream);
     if (stream == 5 && once_in(20))
         frame[2] = (uint8_t)below(256);
+    if (stream == 5 && once_in(20))
+        put_number(frame + 2, 2, ONE_OF(edges));
     return n;
 }
 
 /* A frame is cut or lengthened, or loses its kind or its channel. */
 static size_t damaged(uint8_t *frame, size_t n)
 {
+    bool near = once_in(2);
+
     switch (below(4)) {
     case 0:
         return below((unsigned)n + 1);
     case 1:
-        frame[0] = (uint8_t)below(once_in(2) ? 10 : 256);
+        frame[0] = (uint8_t)below(near ? 10 : 256);
         return n;
     case 2:
         if (n > 1)
-            frame[1] = (uint8_t)below(once_in(2) ? 14 : 256);
+            frame[1] = (uint8_t)below(near ? 14 : 256);
         return n;
     default:
         random_bytes(frame + n, 4);
@@ -203,7 +347,7 @@ static const unsigned char share[MOODS][7] = {{14, 15, 15, 25, 20, 5, 4},
 
 static size_t some_frame(uint8_t *frame, enum mood mood)
 {
-    unsigned kind, left = below(100);
+    unsigned kind, channel, low, left = below(100);
 
     for (kind = 0; kind < 7 && left >= share[mood][kind]; kind++)
         left -= share[mood][kind];
@@ -219,7 +363,9 @@ static size_t some_frame(uint8_t *frame, enum mood mood)
     case 4:
         return frame_poll(frame, below(2));
     case 5:
-        return frame_status(frame, below(2), below(256), below(256));
+        channel = below(2);
+        low = below(256);
+        return frame_status(frame, channel, low, below(256));
     case 6:
         return frame_analogue(frame, below(1000));
     default:
@@ -287,7 +433,7 @@ static void descent(void)
         height = seconds < 650 ? height : height > 10 ? height - 8 : 0;
         broadcast(seconds, height + 0x8000 * below(2));
         for (i = 0; i < 20; i++)
-            tick(height == 0 && seconds < 2600 ? 60 + below(60) : below(60));
+            tick(below(60) + (height == 0 && seconds < 2600 ? 60 : 0));
         for (i = 0; i < 6; i++)
             sample(ONE_OF(sampled));
         if (play_controller()->mode == 5)
@@ -301,23 +447,135 @@ static void descent(void)
     }
 }
 
-/* ------------------------------------------------ edges, queue and time */
+/* ------------------------------------------- several refusals at once */
 
-/* In mode 4 (locked or not) up to the tick before the record's last. */
-static void collect(unsigned mode)
+/* What can be wrong with a frame by itself; time, mode and room are up to
+ * what the controller holds. */
+enum {
+    WRONG_CHANNEL = 1,
+    WRONG_SIZE = 2,
+    NOT_CARRIED = 4,
+    WRONG_LENGTH = 8,
+    OUT_OF_RANGE = 16,
+    LATE = 32,
+    ALL_FLAWS = 63
+};
+
+/* A command with these flaws.  One that would be accepted would end what the
+ * session holds the controller in, unless it sends housekeeping. */
+static size_t flawed_command(uint8_t *frame, unsigned flaws)
 {
-    unsigned i;
+    static const unsigned ids[] = {CLEAR_STREAMS_ID, HOUSEKEEPING_ID,
+                                   SET_MODE_ID};
+    unsigned id = ONE_OF(ids);
+    size_t n;
 
-    order(SET_MODE_ID, mode);
-    for (i = below(600); i > 0; i--)
-        tick(below(81));
-    for (i = 0; i < 3; i++)
-        tick(81 + below(1000));
-    while (play_controller()->further < 447)
-        tick(once_in(9) ? below(4096) : below(200));
+    if (id != HOUSEKEEPING_ID && (flaws & ~LATE) == 0)
+        flaws |= OUT_OF_RANGE;
+    n = frame_order(frame, 0, flaws & NOT_CARRIED ? id + 1 : id, 7,
+                    flaws & OUT_OF_RANGE ? 0x8010 : 4);
+    if (id == HOUSEKEEPING_ID)
+        n -= 2;
+    if (flaws & WRONG_LENGTH)
+        n += 1 + below(3);
+    return flaws & WRONG_SIZE ? below(6) : n;
 }
 
-/* The record's last tick with 38 to 48 slots taken, and again with room. */
+static size_t flawed_sample(uint8_t *frame, unsigned flaws)
+{
+    static const unsigned others[] = {0, 1, 2, 3, 7, 8, 10, 12, 255};
+    unsigned stream = ONE_OF(sampled);
+    size_t n;
+
+    if (once_in(3))
+        stream = 11;
+    n = right_sample(frame, stream);
+    if (stream == 5 && flaws & OUT_OF_RANGE)
+        frame[2] |= (uint8_t)(0x10 << below(4));
+    if (flaws & NOT_CARRIED)
+        frame[1] = (uint8_t)ONE_OF(others);
+    if (flaws & WRONG_LENGTH)
+        n = once_in(2) ? n + 1 : n - 1;
+    return flaws & WRONG_SIZE ? below(2) : n;
+}
+
+/* A frame of this kind with these flaws, as far as they can be in it. */
+static size_t flawed(uint8_t *frame, unsigned kind, unsigned flaws)
+{
+    const struct model_controller *c = play_controller();
+    size_t n;
+
+    memset(frame, 0, FRAME_MOST + 8);
+    switch (kind) {
+    case 1:
+        n = frame_broadcast(frame, 1, 4 * (c->seconds - !!(flaws & LATE)),
+                            9000);
+        break;
+    case 2:
+        n = flawed_command(frame, flaws);
+        break;
+    case 3:
+        n = frame_tick(frame, flaws & OUT_OF_RANGE ? 4096 + below(61440) : 9);
+        break;
+    case 4:
+        return flawed_sample(frame, flaws);
+    case 5:
+        n = frame_poll(frame, 0);
+        break;
+    case 6:
+        n = frame_status(frame, 1, 0x33, 0xCC);
+        break;
+    default:
+        n = frame_analogue(frame, 5);
+        break;
+    }
+    if (flaws & WRONG_CHANNEL && kind != 3 && kind != 7)
+        frame[1] = (uint8_t)(0x0C + below(2));
+    if (flaws & WRONG_SIZE && kind != 2)
+        n = once_in(2) ? n + 1 : n - 1;
+    return n;
+}
+
+/* Frames with several flaws, where every stream's packet lacks one sample,
+ * the queue has little room or none, and the mode takes few samples or a
+ * record lacks its last tick. */
+static void refusals(void)
+{
+    static const unsigned taken[] = {0, 42, 44, 48, 48};
+    static const unsigned modes[] = {0, 1, 5, 7, 8, 14, 15};
+    uint8_t frame[FRAME_MOST + 8];
+    unsigned turn, i, pieces, kind, flaws;
+    size_t n, out_length;
+
+    broadcast(5, 9000);
+    for (turn = 0; turn < 20; turn++) {
+        order(SET_MODE_ID, 5);
+        for (i = 0; i < 4; i++)
+            all_but_one(sampled[i]);
+        pieces = ONE_OF(taken);
+        if (turn % 2 == 0)
+            collect(4);
+        else
+            order(SET_MODE_ID, ONE_OF(modes));
+        for (i = 0; i < 150; i++) {
+            if (i % 10 == 0)
+                bring_queue_to(pieces);
+            kind = 1 + below(7);
+            flaws = below(ALL_FLAWS + 1);
+            flaws &= below(ALL_FLAWS + 1);
+            n = flawed(frame, kind, flaws);
+            out_length = once_in(6) ? 125 : 126;
+            give_with(frame, n, out_length);
+        }
+        play_look();
+    }
+}
+
+/* ------------------------------------------------ edges, queue and time */
+
+
+/* The record's last tick with 38 to 48 slots taken, out of range too, and
+ * again with room. */
 static void tight_queue(void)
 {
     unsigned taken;
@@ -327,8 +585,12 @@ static void tight_queue(void)
         bring_queue_to(taken);
         if (once_in(2))
             broadcast(play_controller()->seconds, 5000);
-        while (tick(below(4096)) == 7)
+        tick(4096 + below(61440));
+        while (tick(below(4096)) == 7) {
+            if (once_in(4))
+                tick(4096 + below(61440));
             poll_on(below(2));
+        }
         play_look();
         if (once_in(2))
             order(CLEAR_STREAMS_ID, 0x0E74);
@@ -441,16 +703,17 @@ static void mode_times(void)
 
 /* ---------------------------------------------------------- long counts */
 
-/* 65,536 broadcasts, commands and polls on each channel. */
+/* 65,536 broadcasts, commands and polls on one channel, then on the other. */
 static void long_counts(void)
 {
     unsigned i;
 
     lost_in_hundred = 1;
     for (i = 0; i < 2 * 65600; i++) {
-        broadcast_on(i & 1, i / 2000, 9000);
-        housekeeping_on(i & 1);
-        poll_on(i & 1);
+        unsigned channel = i / 65600;
+        broadcast_on(channel, i / 2000, 9000);
+        housekeeping_on(channel);
+        poll_on(channel);
         if (i % 16384 == 0)
             play_look();
     }
@@ -463,8 +726,9 @@ static void long_errors(void)
 
     bring_queue_to(48);
     for (i = 0; i < 1200; i++) {
+        unsigned id = below(0x33);
         housekeeping_on(below(2));
-        order(below(0x33), below(65536));
+        order(id, below(65536));
         order(SET_MODE_ID, 16 + below(100));
         if (once_in(100))
             play_look();
@@ -497,13 +761,20 @@ static void long_streams(void)
 
 /* ------------------------------------------------ the way to the reader */
 
+/* A packet with a wrong head; its count is often the one that its stream had
+ * last or that would be next. */
 static void noise(void)
 {
+    static const unsigned not_carried[] = {0, 1, 3, 7, 8, 12, 13, 14, 15};
     uint8_t packet[140];
-    unsigned n = 126;
+    unsigned stream = below(16), place = below(7), count = below(4096), at;
+    size_t n = 126, out_length = 776;
 
-    packet_of(packet, below(16), below(4096), below(7), below(1000));
-    switch (below(6)) {
+    if (stream < MODEL_STREAMS && !once_in(3))
+        count = play_reader()->records[stream].last + below(2);
+    random_bytes(packet + 126, sizeof packet - 126);
+    packet_of(packet, stream, count, place, below(1000));
+    switch (below(7)) {
     case 0:
         random_bytes(packet, 2);
         packet[1] &= 0x0F;
@@ -512,20 +783,29 @@ static void noise(void)
         packet[2] = (uint8_t)(packet[2] - 0x40 * (1 + below(3)));
         break;
     case 2:
-        packet[4 + below(2)] ^= (uint8_t)(1 << below(8));
+        at = 4 + below(2);
+        packet[at] ^= (uint8_t)(1 << below(8));
         break;
     case 3:
-        n = once_in(2) ? below(126) : 127 + below(10);
+        n = below(139);
+        n += n >= 126;
         break;
     case 4:
-        packet[7] = (uint8_t)((packet[7] & 0xF0) | "\0\1\3\7\10\14\15\16\17"[below(9)]);
+        packet[7] = (uint8_t)((packet[7] & 0xF0) | ONE_OF(not_carried));
+        break;
+    case 5:
+        /* The bit in which the two IDs differ stays. */
+        at = below(2);
+        packet[at] ^= (uint8_t)(1 << below(at == 0 ? 8 : 5));
         break;
     default:
         random_bytes(packet, sizeof packet);
         packet[0] = 0xFF;
         break;
     }
-    play_packet(packet, n, once_in(9) ? below(776) : 776 + below(100));
+    if (once_in(6))
+        out_length = some_output(776);
+    play_packet(packet, n, out_length);
 }
 
 /* Housekeeping, accelerometer packets and samples, under loss, repetition and
@@ -609,32 +889,40 @@ static void most_missing(void)
 static void packet_at(unsigned stream, unsigned d, bool spoilt)
 {
     const struct model_record *record = &play_reader()->records[stream];
-    unsigned pieces = stream_pieces(stream);
+    unsigned place = (record->place + d) % stream_pieces(stream);
     uint8_t packet[126];
+    size_t out_length = 776;
 
-    packet_of(packet, stream, record->last + d, (record->place + d) % pieces,
-              below(100000));
+    packet_of(packet, stream, record->last + d, place, below(100000));
+    if (once_in(3))
+        sync_in_piece(packet, stream, place);
     if (spoilt) {
-        unsigned at = once_in(3)   ? below(118)
-                      : once_in(2) ? below(2)
-                                   : 100 + below(18);
+        unsigned at = 100 + below(18);
+        if (once_in(3))
+            at = below(118);
+        else if (once_in(2))
+            at = below(2);
         packet[8 + at] ^= (uint8_t)(1 << below(8));
     }
-    play_packet(packet, 126, once_in(50) ? below(776) : 776 + below(60));
+    if (once_in(25))
+        out_length = some_output(776);
+    play_packet(packet, 126, out_length);
 }
 
 static void from_nowhere(void)
 {
     static const unsigned distances[] = {0, 1, 2, 5, 6, 7, 8, 4095};
-    unsigned i, run, stream = 2, damage = once_in(2) ? 30 : 1000000;
+    unsigned i, run, d, stream = 2, damage = once_in(2) ? 30 : 1000000;
 
     for (i = 0; i < 2500; i++) {
         if (once_in(4))
             stream = ONE_OF(streams);
         for (run = below(9); run > 0; run--)
             packet_at(stream, 1, once_in(damage));
-        packet_at(stream, once_in(6) ? below(4096) : ONE_OF(distances),
-                  once_in(damage));
+        d = ONE_OF(distances);
+        if (once_in(6))
+            d = below(4096);
+        packet_at(stream, d, once_in(damage));
         if (once_in(10))
             noise();
         if (once_in(500))
@@ -657,20 +945,106 @@ static void distances(void)
             }
 }
 
+/* --------------------------------------------- long frames and packets */
+
+/* Right frames, one of each kind, id and stream. */
+enum { RIGHT_FRAMES = 15 };
+
+static size_t right_frame(uint8_t *frame, unsigned which)
+{
+    static const unsigned in_samples[] = {4, 5, 6, 9, 11, 2};
+    unsigned channel = below(2);
+
+    switch (which) {
+    case 0:
+        return frame_broadcast(frame, channel,
+                               4u * play_controller()->seconds, 9000);
+    case 1:
+        return frame_order(frame, channel, CLEAR_STREAMS_ID, which, 0x0210);
+    case 2:
+        return frame_command(frame, channel, HOUSEKEEPING_ID, which);
+    case 3:
+        return frame_order(frame, channel, SET_MODE_ID, which, 13);
+    case 4:
+        return frame_command(frame, channel, 0x0033, which);
+    case 5:
+        return frame_tick(frame, 80);
+    case 6:
+        return frame_poll(frame, channel);
+    case 7:
+        return frame_status(frame, channel, 0x5A, 0xA5);
+    case 8:
+        return frame_analogue(frame, which);
+    default:
+        return right_sample(frame, in_samples[which - 9]);
+    }
+}
+
+static uint8_t long_bytes[PLAY_LONGEST];
+
+/* Each right frame, so much longer that its length is right after a wrap;
+ * then as it is, with outputs that are short after a wrap. */
+static void long_frames(void)
+{
+    unsigned which, i, rest;
+    size_t n;
+
+    order(SET_MODE_ID, 13);
+    random_bytes(long_bytes, sizeof long_bytes);
+    for (which = 0; which < RIGHT_FRAMES; which++)
+        for (i = 0; i < WRAPS; i++) {
+            bring_queue_to(7);
+            n = right_frame(long_bytes, which);
+            give_exactly(long_bytes, n + wraps[i]);
+            rest = below(126);
+            give_with(long_bytes, n, wraps[i] + rest);
+        }
+    for (i = 0; i < 150; i++) {
+        right_frame(long_bytes, below(RIGHT_FRAMES));
+        give(long_bytes, below(PLAY_LONGEST + 1));
+    }
+}
+
+/* The like for packets, each the next of its stream. */
+static void long_packets(void)
+{
+    unsigned turn, i, stream, count, place, rest;
+
+    random_bytes(long_bytes, sizeof long_bytes);
+    for (turn = 0; turn < 7; turn++)
+        for (i = 0; i < 7 * WRAPS; i++) {
+            const struct model_record *record;
+            stream = streams[i % 7];
+            record = &play_reader()->records[stream];
+            count = record->last + 1u;
+            place = (record->place + 1u) % stream_pieces(stream);
+            packet_of(long_bytes, stream, count, place, below(1000));
+            play_packet(long_bytes, 126 + wraps[i / 7], 776);
+            rest = below(776);
+            play_packet(long_bytes, 126, wraps[i / 7] + rest);
+            play_packet(long_bytes, 126, 776);
+        }
+    for (i = 0; i < 150; i++)
+        play_packet(long_bytes, below(PLAY_LONGEST + 1), 776);
+}
+
 const struct session sessions[] = {
     {"shapes of frames", shapes, 1},
-    {"each mode after each", mode_orders, 2},
+    {"long frames", long_frames, 2},
+    {"long packets", long_packets, 2},
+    {"several refusals at once", refusals, 6},
     {"times of the modes", mode_times, 12},
-    {"descents", descent, 20},
+    {"each mode after each", mode_orders, 2},
+    {"packets from nowhere", from_nowhere, 40},
+    {"each distance", distances, 1},
     {"a tight queue, records", tight_queue, 6},
     {"a tight queue, samples", tight_samples, 6},
-    {"clears", clears, 6},
+    {"descents", descent, 20},
     {"mixed frames", mixed, 50},
     {"many errors", long_errors, 1},
-    {"long counts", long_counts, 1},
-    {"long streams", long_streams, 1},
+    {"clears", clears, 6},
     {"the way to the reader", channel, 20},
     {"most pieces missing", most_missing, 1},
-    {"each distance", distances, 1},
-    {"packets from nowhere", from_nowhere, 40},
+    {"long counts", long_counts, 1},
+    {"long streams", long_streams, 1},
     {NULL, NULL, 0}};

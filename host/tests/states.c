@@ -14,7 +14,18 @@
 #include "guard.h"
 #include "random.h"
 
-enum { PAST = 8, PROBES = 16, RANDOM_STATES = 20000, MARK = 2 };
+enum {
+    PAST = 8,
+    PROBES = 16,
+    RANDOM_STATES = 20000,
+    MARK = 2,
+    LONGEST = 65536 + SSP_READER_BYTES
+};
+
+/* Lengths that wrap where they are kept in fewer bits. */
+static const size_t wraps[] = {256,  512,   1024,  2048, 4096,
+                               8192, 16384, 32768, 65536};
+enum { WRAPS = sizeof wraps / sizeof *wraps };
 
 typedef uint8_t start_entry(uint8_t *, size_t);
 typedef uint8_t call_entry(uint8_t *, size_t, const uint8_t *, size_t,
@@ -32,14 +43,15 @@ struct machine {
     call_entry *call;
     size_t least, least_out;
     int unfit, short_output;
-    enum cover_outside lengths, out_lengths, unfit_came, behaved;
+    enum cover_outside lengths, out_lengths, unfit_came, behaved, long_states,
+        long_outputs;
     void (*lived)(uint8_t *state); /* a state made by starting and calls */
     size_t (*written)(const struct probe *, int reply);
     struct probe probes[PROBES];
     unsigned count;
 };
 
-static struct guard state_room, other_room, out_room, other_out;
+static struct guard state_room, other_room, out_room, other_out, long_room;
 
 static bool wrong(const struct machine *m, const char *what, unsigned long at)
 {
@@ -82,11 +94,14 @@ static bool one_length(const struct machine *m, const uint8_t *right, size_t n)
     return true;
 }
 
+/* The room is the long one where the length is more than out_room has. */
 static bool one_out_length(const struct machine *m, const uint8_t *right,
                            const struct probe *p, size_t n)
 {
+    struct guard *room = n <= SSP_READER_OUT_BYTES + PAST ? &out_room
+                                                          : &long_room;
     uint8_t *state = guard_place(&state_room, m->least, true);
-    uint8_t *out = guard_place(&out_room, n, n % 2 == 0);
+    uint8_t *out = guard_place(room, n, n % 2 == 0);
     int reply;
 
     memcpy(state, right, m->least);
@@ -94,10 +109,62 @@ static bool one_out_length(const struct machine *m, const uint8_t *right,
                     n == 0 ? NULL : out, n);
     if ((reply == m->short_output) != (n < m->least_out))
         return wrong(m, "reply to an output's length", n);
-    if (!untouched(&out_room, n < m->least_out ? 0 : m->written(p, reply)))
+    if (!untouched(room, n < m->least_out ? 0 : m->written(p, reply)))
         return wrong(m, "output written", n);
     if (n < m->least_out && memcmp(state, right, m->least) != 0)
         return wrong(m, "state after a short output", n);
+    return true;
+}
+
+/* Starts a state of more bytes than are needed, and calls on it: all is as
+ * with the least, and the bytes behind stay. */
+static bool one_long_state(const struct machine *m, const uint8_t *right,
+                           const struct probe *p, size_t n)
+{
+    uint8_t *state = guard_place(&long_room, n, n % 2 == 0);
+    uint8_t *out = guard_place(&out_room, m->least_out, true);
+    uint8_t *least = guard_place(&other_room, m->least, true);
+    uint8_t *least_out = guard_place(&other_out, m->least_out, true);
+
+    if (m->start(state, n) != 0 || m->start(least, m->least) != 0 ||
+        memcmp(state, least, m->least) != 0 || !untouched(&long_room, m->least))
+        return wrong(m, "start of a long state", n);
+    memcpy(state, right, m->least);
+    memcpy(least, right, m->least);
+    if (m->call(state, n, p->bytes, p->length, out, m->least_out) !=
+        m->call(least, m->least, p->bytes, p->length, least_out, m->least_out))
+        return wrong(m, "reply on a long state", n);
+    if (memcmp(state, least, m->least) != 0 ||
+        memcmp(out, least_out, m->least_out) != 0 ||
+        !untouched(&long_room, m->least) || !guard_holds(&out_room))
+        return wrong(m, "bytes of a long state", n);
+    return true;
+}
+
+/* States and outputs that are long enough, but not after their length has
+ * wrapped. */
+static bool long_lengths(const struct machine *m, const uint8_t *right)
+{
+    const size_t rests[] = {0, 1, 100, m->least_out - 1, m->least - 1};
+    unsigned probe, wrap, rest;
+    size_t n;
+
+    for (probe = 0; probe < m->count; probe++)
+        for (wrap = 0; wrap < WRAPS; wrap++)
+            for (rest = 0; rest < sizeof rests / sizeof *rests; rest++) {
+                const struct probe *p = &m->probes[probe];
+                n = wraps[wrap] + rests[rest];
+                if (n >= m->least && n % wraps[wrap] < m->least) {
+                    if (!one_long_state(m, right, p, n))
+                        return false;
+                    cover_outside(m->long_states);
+                }
+                if (n >= m->least_out && n % wraps[wrap] < m->least_out) {
+                    if (!one_out_length(m, right, p, n))
+                        return false;
+                    cover_outside(m->long_outputs);
+                }
+            }
     return true;
 }
 
@@ -119,7 +186,7 @@ static bool each_length(const struct machine *m)
                 return false;
             cover_outside(m->out_lengths);
         }
-    return true;
+    return long_lengths(m, right);
 }
 
 /* ------------------------------------------------------- damaged states */
@@ -256,14 +323,15 @@ static struct machine controller = {
     "the controller", ssp_start, ssp_frame, SSP_STATE_BYTES, SSP_OUT_BYTES,
     SSP_CONTROLLER_UNFIT_STATE, SSP_CONTROLLER_SHORT_OUTPUT,
     COVER_STATE_LENGTHS, COVER_OUT_LENGTHS,
-    COVER_STATE_10, COVER_STATE_BEHAVES, lived_controller, written_by_frame,
-    {{{0}, 0}}, 0};
+    COVER_STATE_10, COVER_STATE_BEHAVES, COVER_LONG_STATES, COVER_LONG_OUTPUTS,
+    lived_controller, written_by_frame, {{{0}, 0}}, 0};
 
 static struct machine reader = {
     "the reader", ssp_reader_start, ssp_reader_packet, SSP_READER_BYTES,
     SSP_READER_OUT_BYTES, SSP_READER_UNFIT_STATE, SSP_READER_SHORT_OUTPUT,
     COVER_READER_LENGTHS, COVER_READER_OUT_LENGTHS, COVER_READER_25,
-    COVER_READER_BEHAVES, lived_reader, written_by_packet, {{{0}, 0}}, 0};
+    COVER_READER_BEHAVES, COVER_READER_LONG_STATES, COVER_READER_LONG_OUTPUTS,
+    lived_reader, written_by_packet, {{{0}, 0}}, 0};
 
 /* The next probe's bytes, which are then written to. */
 static struct probe *next_probe(struct machine *m)
@@ -315,6 +383,7 @@ static void make_rooms(void)
     guard_make(&other_room, SSP_READER_BYTES + PAST);
     guard_make(&out_room, SSP_READER_OUT_BYTES + PAST);
     guard_make(&other_out, SSP_READER_OUT_BYTES + PAST);
+    guard_make(&long_room, LONGEST);
 }
 
 bool states_of_each_length(void)
