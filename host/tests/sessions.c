@@ -422,6 +422,55 @@ static void shapes(void)
     }
 }
 
+/* Each mask of one bit, each mode and some beyond, ids around those carried,
+ * readings and DEN samples at the end of their range. */
+static void values(void)
+{
+    static const unsigned ids[] = {CLEAR_STREAMS_ID, HOUSEKEEPING_ID,
+                                   SET_MODE_ID};
+    uint8_t frame[FRAME_MOST];
+    unsigned i, value;
+
+    for (i = 0; i < 3; i++) {
+        order(ids[i] - 1, 0);
+        order(ids[i] + 1, 0);
+        order(ids[i] + 0x0100, 0);
+        order(ids[i] + 0x8000, 0);
+    }
+    for (i = 0; i < 16; i++)
+        order(CLEAR_STREAMS_ID, 1u << i);
+    for (value = 0; value < 0x10000; value += value < 20 ? 1 : value)
+        order(SET_MODE_ID, value);
+    order(SET_MODE_ID, 1);
+    for (value = 4094; value < 4098; value++) {
+        tick(value);
+        frame_sample(frame, 5, 0);
+        put_number(frame + 2, 2, value);
+        give_exactly(frame, 4);
+    }
+}
+
+/* All ways in which the first eight ticks of mode 4 are above or not, the
+ * flag read off after each. */
+static void windows(void)
+{
+    static const unsigned above[] = {81, 82, 2047};
+    static const unsigned others[] = {0, 80, 2048, 4095};
+    uint8_t frame[FRAME_MOST];
+    unsigned pattern, i, reading;
+
+    for (pattern = 0; pattern < 256; pattern++) {
+        order(SET_MODE_ID, pattern % 2 == 0 ? 4 : 12);
+        for (i = 0; i < 8; i++) {
+            reading = ONE_OF(others);
+            if (pattern >> i & 1)
+                reading = ONE_OF(above);
+            tick(reading);
+            give_exactly(frame, frame_status(frame, i % 2, pattern, 0));
+        }
+    }
+}
+
 /* A descent as a package would meet it: a broadcast each second, ticks, some
  * samples, an impact, then the surface. */
 static void descent(void)
@@ -489,6 +538,8 @@ static size_t flawed_sample(uint8_t *frame, unsigned flaws)
 
     if (once_in(3))
         stream = 11;
+    else if (once_in(2))
+        stream = 5;
     n = right_sample(frame, stream);
     if (stream == 5 && flaws & OUT_OF_RANGE)
         frame[2] |= (uint8_t)(0x10 << below(4));
@@ -665,22 +716,33 @@ static void mode_orders(void)
         }
 }
 
-/* Seconds at the edges of each change by broadcast. */
-static void mode_times(void)
+/* Seconds and altitudes at the edges of the changes by broadcast from modes 1
+ * to 3, each from each mode. */
+static void mode_edges(void)
 {
     static const unsigned edges[] = {599, 600, 5099, 5100, 7199, 7200};
-    unsigned first = below(6), i, from;
+    unsigned i, mode, altitude;
 
-    for (i = first; i < 6; i++)
+    for (i = below(2); i < 6; i++) {
         broadcast(edges[i], 701 + below(9000));
-    for (i = 0; i < 3; i++) {
-        order(SET_MODE_ID, 1 + below(3));
-        broadcast(play_controller()->seconds, 699 + below(4));
+        for (mode = 1; mode <= 3; mode++)
+            for (altitude = 700; altitude <= 702; altitude++) {
+                order(SET_MODE_ID, once_in(6) ? mode + 8 : mode);
+                broadcast(edges[i], altitude + 0x8000 * below(2));
+            }
     }
-    while (play_controller()->seconds < 12000) {
+}
+
+/* The like from modes 4 and 5, by time past entry and past impact. */
+static void mode_times(void)
+{
+    unsigned i, from, turn;
+
+    mode_edges();
+    for (turn = below(2); play_controller()->seconds < 12000; turn++) {
         order(SET_MODE_ID, 4);
         from = play_controller()->entry_time / 1024;
-        if (once_in(2)) {
+        if (turn % 2 == 0) {
             for (i = 0; i < 4; i++)
                 tick(2047);
             broadcast(from + (once_in(2) ? 1860 : 100), 9000);
@@ -1032,8 +1094,10 @@ const struct session sessions[] = {
     {"shapes of frames", shapes, 1},
     {"long frames", long_frames, 2},
     {"long packets", long_packets, 2},
+    {"values at their edges", values, 1},
     {"several refusals at once", refusals, 6},
     {"times of the modes", mode_times, 12},
+    {"windows", windows, 1},
     {"each mode after each", mode_orders, 2},
     {"packets from nowhere", from_nowhere, 40},
     {"each distance", distances, 1},
