@@ -716,6 +716,13 @@ static void mode_orders(void)
         }
 }
 
+/* Housekeeping shows the mode and how it was entered. */
+static void show_entry(void)
+{
+    housekeeping_on(0);
+    bring_queue_to(0);
+}
+
 /* Seconds and altitudes at the edges of the changes by broadcast from modes 1
  * to 3, each from each mode. */
 static void mode_edges(void)
@@ -725,10 +732,12 @@ static void mode_edges(void)
 
     for (i = below(2); i < 6; i++) {
         broadcast(edges[i], 701 + below(9000));
+        show_entry();
         for (mode = 1; mode <= 3; mode++)
             for (altitude = 700; altitude <= 702; altitude++) {
                 order(SET_MODE_ID, once_in(6) ? mode + 8 : mode);
                 broadcast(edges[i], altitude + 0x8000 * below(2));
+                show_entry();
             }
     }
 }
@@ -759,7 +768,7 @@ static void mode_times(void)
             broadcast(from + 179, 9000);
         broadcast(from + 180 > play_controller()->seconds
                       ? from + 180 : play_controller()->seconds, 9000);
-        bring_queue_to(0);
+        show_entry();
     }
 }
 
