@@ -1,4 +1,8 @@
-/* random.h: numbers that follow from a seed, the same on every machine. */
+/* random.h: numbers that follow from a seed, the same on every machine.
+ *
+ * Each call draws, so an expression holds one of them at most: of two, C
+ * leaves open which is drawn first, and the same seed would play other
+ * sequences with another compiler. */
 #ifndef RANDOM_H
 #define RANDOM_H
 

@@ -5,8 +5,7 @@
  * time, long counts, the way to the reader, packets from nowhere, long frames
  * and packets.
  *
- * No expression draws two random numbers: C leaves open in which order they
- * would be drawn, and each compiler would play other sequences. */
+ * No expression draws two random numbers (random.h says why). */
 #include "sessions.h"
 
 #include <string.h>
@@ -885,7 +884,9 @@ static void channel(void)
 {
     unsigned i;
 
-    lost_in_hundred = once_in(3) ? 0 : below(70);
+    lost_in_hundred = below(70);
+    if (once_in(3))
+        lost_in_hundred = 0;
     order(SET_MODE_ID, 13);
     for (i = 0; i < 1500; i++) {
         if (once_in(3))
@@ -1071,7 +1072,8 @@ static void long_frames(void)
             give_with(long_bytes, n, wraps[i] + rest);
         }
     for (i = 0; i < 150; i++) {
-        right_frame(long_bytes, below(RIGHT_FRAMES));
+        which = below(RIGHT_FRAMES);
+        right_frame(long_bytes, which);
         give(long_bytes, below(PLAY_LONGEST + 1));
     }
 }

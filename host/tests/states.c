@@ -1,5 +1,5 @@
-/* states.c: states of every length, damaged states and states of random
- * bytes.  What a state's bytes mean is the library's; here is held only what
+/* states.c: states of every length up to the least and of some far beyond,
+ * damaged states and states of random bytes.  What a state's bytes mean is the library's; here is held only what
  * must be so of any bytes: 10 (the reader 25) with nothing changed, or a reply
  * with the bytes that belong to it, and nothing touched outside the buffers.
  */
