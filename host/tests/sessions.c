@@ -607,14 +607,14 @@ static void refusals(void)
             collect(4);
         else
             order(SET_MODE_ID, ONE_OF(modes));
-        for (i = 0; i < 150; i++) {
+        for (i = 0; i < 250; i++) {
             if (i % 10 == 0)
                 bring_queue_to(pieces);
             kind = 1 + below(7);
             flaws = below(ALL_FLAWS + 1);
             flaws &= below(ALL_FLAWS + 1);
             n = flawed(frame, kind, flaws);
-            out_length = once_in(6) ? 125 : 126;
+            out_length = once_in(3) ? 125 : 126;
             give_with(frame, n, out_length);
         }
         play_look();
@@ -647,20 +647,27 @@ static void tight_queue(void)
     }
 }
 
-/* The closing sample of each stream with 43 to 48 slots taken. */
+/* The closing sample of each stream and housekeeping with 43 to 48 slots
+ * taken, first with an output that is too short. */
 static void tight_samples(void)
 {
+    uint8_t frame[FRAME_MOST];
     unsigned taken, i;
+    size_t n;
 
     for (taken = 43; taken <= 48; taken++) {
         order(SET_MODE_ID, 5);
         for (i = 0; i < 4; i++)
             all_but_one(sampled[i]);
         bring_queue_to(taken);
-        for (i = 0; i < 4; i++)
-            sample(sampled[i]);
-        sample(11);
-        housekeeping_on(0);
+        for (i = 0; i < 5; i++) {
+            n = right_sample(frame, i < 4 ? sampled[i] : 11);
+            give_with(frame, n, 125);
+            give_exactly(frame, n);
+        }
+        n = frame_command(frame, 0, HOUSEKEEPING_ID, taken);
+        give_with(frame, n, 125);
+        give_exactly(frame, n);
         play_look();
     }
 }
