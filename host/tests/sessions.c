@@ -623,7 +623,6 @@ static void refusals(void)
 
 /* ------------------------------------------------ edges, queue and time */
 
-
 /* The record's last tick with 38 to 48 slots taken, out of range too, and
  * again with room. */
 static void tight_queue(void)
