@@ -494,13 +494,6 @@ static void hold_streams(void)
 
 /* --------------------------------------------------------- status words */
 
-/* The bits of a channel's word that a flag changes. */
-static unsigned changed_by(unsigned channel, unsigned flag)
-{
-    fresh();
-    return word_with(channel, 0, 0) ^ word_with(channel, 0, flag);
-}
-
 static unsigned low_bits(unsigned channel)
 {
     fresh();

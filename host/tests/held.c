@@ -112,6 +112,12 @@ unsigned word_with(unsigned channel_byte, unsigned low, unsigned flags)
     return (unsigned)number(held_out, 2);
 }
 
+unsigned changed_by(unsigned channel_byte, unsigned flag)
+{
+    fresh();
+    return word_with(channel_byte, 0, 0) ^ word_with(channel_byte, 0, flag);
+}
+
 unsigned mode_now(void)
 {
     return (word_with(SSP_CHANNEL_A, 0, 0) & SSP_A_MODE) / SSP_A_MODE_UNIT;

@@ -33,6 +33,9 @@ uint8_t poll_with(unsigned channel_byte);
 unsigned word_with(unsigned channel_byte, unsigned low, unsigned flags);
 unsigned mode_now(void); /* by the A word */
 
+/* The bits of a channel's word that a flag changes, in a fresh controller. */
+unsigned changed_by(unsigned channel_byte, unsigned flag);
+
 /* Three ticks that declare an impact and the 448 that complete its record. */
 enum { RECORD_TICKS = 3 + 448 };
 void give_record(void);

@@ -74,12 +74,6 @@ static const struct flag {
               {"BCP loss", false, true},    {"redundant 12V", false, true},
               {"nominal 12V", false, true}, {"sounder", false, true}};
 
-static unsigned changed_by(unsigned channel, unsigned flag)
-{
-    fresh();
-    return word_with(channel, 0, 0) ^ word_with(channel, 0, flag);
-}
-
 static void hold_flag_names(unsigned channel, unsigned bit, bool there)
 {
     unsigned mask = changed_by(channel, 1u << bit);

@@ -94,8 +94,7 @@ pub record Receives : Type 0 where
   pub never-25 : (s : List ℕ) → readerBytes ≤ length s → (xs : List (List ℕ × List ℕ)) → Framed xs
       → fitReader (readsOf (startReader s .state) xs) ≡ true
 
--- "10 state buffer shorter than the length docs/ names, or a number kept in it outside its range" "25 lent state unfit, as 10": bytes
--- that one machine's calls take are refused by the other's.
+-- Ours, of 10 and 25: bytes that one machine's calls take are refused by the other's.
 pub record Apart : Type 0 where
   pub controllers : (s f o : List ℕ) → fit s ≡ true → readOf s f o ≡ res 25 o s
   pub readers : (s f o : List ℕ) → fitReader s ≡ true → stepOf s f o ≡ res 10 o s
