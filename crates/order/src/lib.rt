@@ -67,7 +67,7 @@ fn obey(s: &mut [u8], request: Request)
 {
     match request {
         Request::Clear(mask) => slots::clear(s, mask),
-        Request::Housekeeping => packet::housekeeping(s),
+        Request::Housekeeping => housekeeping::housekeeping(s),
         Request::SetMode(value) => set_mode(s, value),
     }
 }
