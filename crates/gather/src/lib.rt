@@ -1,15 +1,13 @@
 // The reader on lent bytes: start, and one packet.
 use shelf::BYTES;
 use shelf::MARK;
-use streams::CLOSING;
-use streams::OPENING;
 use track::Move;
 use track::Track;
 ghost use mathlib.Core.Path.{_≡_};
 ghost use mathlib.Core.Bool.{true};
 ghost use Prim.Native.Nat.{_+_, _*_, _-_, _<_, _≤_};
 ghost use lib.ListN.{length, drop};
-ghost use Rattle.wire.specs.Wire.{part, put};
+ghost use Rattle.wire.specs.Wire.{put};
 ghost use Rattle.paper.specs.Streams as Streams;
 ghost use Rattle.paper.specs.Reader as Reader;
 ghost use Rattle.paper.specs.Status.{bit};
@@ -71,47 +69,6 @@ pub fn start(s: &mut [u8]) -> u8
     0
 }
 
-// A packet's size, ID, top two sequence bits and length.
-fn well_formed(f: &[u8]) -> bool
-    ensures { λ r. ⌜ r ≡ Reader.wellFormed (now (f .entry)) ⌝ }
-{
-    if f.len() != 126 {
-        return false;
-    }
-    let id = wire::get16(f, 0);
-    ((id == 0x0F94) | (id == 0x0FB4)) & ((f[2] / 64 == 3) & (wire::get16(f, 4) == 0x0077))
-}
-
-// Whether the bytes from one offset up to another are fill.
-fn filled(s: &[u8], from: usize, to: usize) -> bool
-    requires { ⌜ (from ≤ to) × (to ≤ length (now s)) ⌝ }
-    ensures { λ r. ⌜ r ≡ Reader.all99 (part (now (s .entry)) from (to - from)) ⌝ }
-{
-    let mut i = from;
-    while i < to {
-        if s[i] != 0x99 {
-            return false;
-        }
-        i += 1;
-    }
-    true
-}
-
-// Whether opening, closing and fill bytes of a stream's whole packet are right.
-fn sound(s: &[u8], stream: u8) -> bool
-    requires { ⌜ (readerBytes ≤ length (now s)) × (Streams.carried stream ≡ true) ⌝ }
-    ensures { λ r. ⌜ r ≡ Reader.sound stream (part (now (s .entry)) (gatherAt stream) (118 * Streams.pieces stream)) ⌝ }
-{
-    let at = shelf::gather_at(stream);
-    let end = at + wire::size16(streams::listed(stream));
-    let marks = (s[at] == OPENING[0])
-        & ((s[at + 1] == OPENING[1]) & ((s[end - 2] == CLOSING[0]) & (s[end - 1] == CLOSING[1])));
-    if !marks {
-        return false;
-    }
-    filled(s, end, at + 118 * streams::pieces(stream))
-}
-
 // The body of a packet stands at its place.
 fn keep(s: &mut [u8], stream: u8, place: u8, f: &[u8])
     requires { ⌜ (readerBytes ≤ length (now s)) × (stream < 12) × (place < 7) × (length (now f) ≡ 126) ⌝ }
@@ -126,7 +83,7 @@ fn hand_out(s: &[u8], stream: u8, out: &mut [u8]) -> u8
     requires { ⌜ (readerBytes ≤ length (now s)) × (Streams.carried stream ≡ true) × (776 ≤ length (now out)) ⌝ }
     ensures { λ r. ⌜ res r (now (out .exit)) (now (s .entry)) ≡ handsTo (now (s .entry)) stream (now (out .entry)) ⌝ }
 {
-    if !sound(s, stream) {
+    if !intact::sound(s, stream) {
         return 23;
     }
     let n = wire::size16(streams::listed(stream));
@@ -175,7 +132,7 @@ pub fn packet(s: &mut [u8], f: &[u8], out: &mut [u8]) -> u8
     if out.len() < 776 {
         return 24;
     }
-    if !well_formed(f) {
+    if !intact::well_formed(f) {
         return 20;
     }
     let tag = wire::get16(f, 6);

@@ -1,4 +1,4 @@
--- `gather::filled` meets its contract.
+-- `intact::filled` meets its contract.
 -- Assumes nothing.
 use native.Mathlib.Omega.{arith}
 use mathlib.Core.Path.{_≡_, refl, _∙_}
@@ -6,9 +6,9 @@ use Prim.Native.Nat.{_-_, _≤_}
 use borrow.Author.Tests.{ne-eqb, eq-eqb}
 use Rattle.wire.specs.Wire.{part}
 use Rattle.paper.specs.Reader.{all99}
-use Rattle.gather.proofs.Receiving.{one-more, none-left}
-use Rattle.gather.proofs.filled.Statement.{statement}
-use Rattle.gather.proofs.filled.Tie as tie
+use Rattle.intact.proofs.Marks.{one-more, none-left}
+use Rattle.intact.proofs.filled.Statement.{statement}
+use Rattle.intact.proofs.filled.Tie as tie
 
 abbrev Inv-loop : tie.InvT-loop
 Inv-loop s from to i₀ i = (i ≤ to) × (all99 (part s from (to - from)) ≡ all99 (part s i (to - i)))

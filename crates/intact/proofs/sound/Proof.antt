@@ -1,4 +1,4 @@
--- `gather::sound` meets its contract.
+-- `intact::sound` meets its contract.
 -- Assumes nothing.
 use native.Mathlib.Omega.{arith}
 use mathlib.Core.Path.{_≡_}
@@ -7,10 +7,10 @@ use borrow.Author.Tests.{not-true, not-false}
 use Rattle.paper.specs.Streams.{listed}
 use Rattle.paper.proofs.Table.{carried-rules}
 use Rattle.shelf.specs.Layout.{gatherAt}
-use Rattle.gather.proofs.Receiving.{marked, sound-bytes}
+use Rattle.intact.proofs.Marks.{marked, sound-bytes}
 use borrow.Author.Needs.{needs}
-use Rattle.gather.proofs.sound.Statement.{statement}
-use Rattle.gather.proofs.sound.Tie as tie
+use Rattle.intact.proofs.sound.Statement.{statement}
+use Rattle.intact.proofs.sound.Tie as tie
 
 gather-at-requires : tie.Need-gather-at-requires
 gather-at-requires c κs = carried-rules (c .before .args .stream) (c .before .pre .1) .small

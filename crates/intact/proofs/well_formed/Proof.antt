@@ -1,10 +1,10 @@
--- `gather::well_formed` meets its contract.
+-- `intact::well_formed` meets its contract.
 -- Assumes nothing.
 use borrow.Author.Tests.{ne-eqb, eq-eqb}
 use Rattle.paper.specs.Reader.{wellFormed}
 use borrow.Author.Needs.{needs}
-use Rattle.gather.proofs.well_formed.Statement.{statement}
-use Rattle.gather.proofs.well_formed.Tie as tie
+use Rattle.intact.proofs.well_formed.Statement.{statement}
+use Rattle.intact.proofs.well_formed.Tie as tie
 
 returns : tie.Need-returns
 unfolding wellFormed

@@ -1,0 +1,2 @@
+-- The laws of this crate that no function is named for.
+pub mod Marks
