@@ -1,4 +1,4 @@
--- Laws of the definitions of `specs/` that this crate's proofs and a client's cite. Assumes nothing.
+-- Laws of the definitions of `lines` that this crate's proofs, and a caller's, cite. Assumes nothing.
 use mathlib.Core.Path.{_≡_, refl, sym, ap, _∙_}
 use mathlib.Core.Bool.{Bool, true, false, cond, _&&_}
 use mathlib.Core.List.{List, [], _∷_, _++_, append-assoc, append-nil}
@@ -9,8 +9,8 @@ use lib.Dec.{leb, ltb, eqb}
 use lib.ListN.{length, take, drop, getD, set, length-set, drop-of-length-le}
 use lib.Seq.{drop-cons, take-suc-set, length-take-le}
 use borrow.Author.Tests.{lt-ltb, le-ltb, le-leb, lt-leb, eq-eqb, ne-eqb, leb-true, ltb-true, ltb-false}
-use Rattle.hexline.specs.Hex.{Read, bytes, faultyText, front, bytesInFront, pair, readHex, valueOf, hexOf, digitOf}
-use Rattle.hexline.specs.Lines.{longest, LineSoFar, kept, over, more, lineOf, lineEnded, partly, scan, bytesOr, frameOfLine}
+use Rattle.lines.specs.Hex.{Read, bytes, faultyText, front, bytesInFront, pair, readHex, valueOf, hexOf, digitOf}
+use Rattle.lines.specs.Lines.{LineSoFar, kept, over, more, lineOf, lineEnded, partly, scan, bytesOr, frameOfLine}
 
 -- two tests that hold together both hold
 both : (x y : Bool) → (x && y) ≡ true → (x ≡ true) × (y ≡ true)
@@ -20,20 +20,6 @@ both false y e = absurd (let z : _≡_ {A = ℕ} 0 1 = cc in omega arith)
 -- a character within two bounds
 pub at-least : (a c b : ℕ) → (leb a c && leb c b) ≡ true → a ≤ c
 at-least a c b e = leb-true a c (both (leb a c) (leb c b) e .0)
-
--- the loop that gathers goes on: there is a character, and room for it
-pub goes-on : (i size k : ℕ) → (ltb i size && ltb k longest) ≡ true → (i < size) × (k < longest)
-goes-on i size k e =
-    let p = both (ltb i size) (ltb k longest) e in
-    (ltb-true i size (p .0), ltb-true k longest (p .1))
-
--- it stops with room left: there is no character
-pub stops : (i size k : ℕ) → (ltb i size && ltb k longest) ≡ false → k < longest → size ≤ i
-stops i size k e h = ltb-false i size (one (ltb i size) (rw (lt-ltb k longest h) at e))
-  where
-    one : (x : Bool) → (x && true) ≡ false → x ≡ false
-    one true p = p
-    one false p = refl
 
 -- a scan that went on from i got past where it began before i
 pub onward-by : (from i size at : ℕ) → from ≤ i → i ≤ at → (i < size → i < at) → from < size → from < at
@@ -131,52 +117,67 @@ pub read-end : (s out : List ℕ) (i n : ℕ) → length s ≤ i → bytesInFron
 unfolding readHex
 read-end s out i n a = rw (drop-of-length-le s a) (ap bytes (append-nil (take n out)))
 
--- the scan from i on, by its first character
-scan-one : (l : LineSoFar) (s : List ℕ) (i : ℕ) → i < length s
-    → scan l (drop i s) ≡ cond (eqb (getD s i 0) 10) (lineEnded l (drop (i + 1) s)) (scan (more l (getD s i 0)) (drop (i + 1) s))
-unfolding scan
-scan-one l s i h = rw (add-one, drop-cons s i 0 h)
+module _ (longest : ℕ) where
+  -- the loop that gathers goes on: there is a character, and room for it
+  pub goes-on : (i size k : ℕ) → (ltb i size && ltb k longest) ≡ true → (i < size) × (k < longest)
+  goes-on i size k e =
+      let p = both (ltb i size) (ltb k longest) e in
+      (ltb-true i size (p .0), ltb-true k longest (p .1))
 
--- at the end of the chunk
-pub scan-end : (l : LineSoFar) (s : List ℕ) (i : ℕ) → length s ≤ i → scan l (drop i s) ≡ partly l
-unfolding scan
-scan-end l s i h = rw (drop-of-length-le s h)
+  -- it stops with room left: there is no character
+  pub stops : (i size k : ℕ) → (ltb i size && ltb k longest) ≡ false → k < longest → size ≤ i
+  stops i size k e h = ltb-false i size (one (ltb i size) (rw (lt-ltb k longest h) at e))
+    where
+      one : (x : Bool) → (x && true) ≡ false → x ≡ false
+      one true p = p
+      one false p = refl
 
--- at an LF
-pub scan-ended : (l : LineSoFar) (s : List ℕ) (i : ℕ) → i < length s → getD s i 0 ≡ 10 → scan l (drop i s) ≡ lineEnded l (drop (i + 1) s)
-scan-ended l s i h e = scan-one l s i h ∙ rw (eq-eqb (getD s i 0) 10 e)
+  -- the scan from i on, by its first character
+  scan-one : (l : LineSoFar) (s : List ℕ) (i : ℕ) → i < length s
+      → scan longest l (drop i s) ≡ cond (eqb (getD s i 0) 10) (lineEnded l (drop (i + 1) s)) (scan longest (more longest l (getD s i 0)) (drop (i + 1) s))
+  unfolding scan
+  scan-one l s i h = rw (add-one, drop-cons s i 0 h)
 
--- at any other character
-pub scan-more : (l : LineSoFar) (s : List ℕ) (i : ℕ) → i < length s → (getD s i 0 ≡ 10 → ⊥) → scan l (drop i s) ≡ scan (more l (getD s i 0)) (drop (i + 1) s)
-scan-more l s i h e = scan-one l s i h ∙ rw (ne-eqb (getD s i 0) 10 e)
+  -- at the end of the chunk
+  pub scan-end : (l : LineSoFar) (s : List ℕ) (i : ℕ) → length s ≤ i → scan longest l (drop i s) ≡ partly l
+  unfolding scan
+  scan-end l s i h = rw (drop-of-length-le s h)
 
--- a character that there is room for
-pub more-kept : (k c : ℕ) (line : List ℕ) → length line ≡ longest → k < longest → more (lineOf k line) c ≡ lineOf (k + 1) (set line k c)
-more-kept k c line e h =
-    let a : k ≤ longest = omega arith in
-    let b : k + 1 ≤ longest = omega arith in
-    let d : k ≤ length line = omega arith in
-    let f : k < length line = omega arith in
-    rw (le-leb k longest a, le-leb (k + 1) longest b, length-take-le k line d, lt-ltb k longest h) (ap kept (sym (stored line k c f)))
+  -- at an LF
+  pub scan-ended : (l : LineSoFar) (s : List ℕ) (i : ℕ) → i < length s → getD s i 0 ≡ 10 → scan longest l (drop i s) ≡ lineEnded l (drop (i + 1) s)
+  scan-ended l s i h e = scan-one l s i h ∙ rw (eq-eqb (getD s i 0) 10 e)
 
--- one that there is none for
-pub more-over : (k c : ℕ) (line : List ℕ) → length line ≡ longest → longest ≤ k → more (lineOf k line) c ≡ over
-more-over k c line e h = by (leb k longest) refl
-  where
-    by : (b : Bool) → leb k longest ≡ b → more (cond b (kept (take k line)) over) c ≡ over
-    by true p =
-        let d : k ≤ length line = omega (arith, leb-true k longest p) in
-        rw (length-take-le k line d, le-ltb k longest h)
-    by false p = refl
+  -- at any other character
+  pub scan-more : (l : LineSoFar) (s : List ℕ) (i : ℕ) → i < length s → (getD s i 0 ≡ 10 → ⊥) → scan longest l (drop i s) ≡ scan longest (more longest l (getD s i 0)) (drop (i + 1) s)
+  scan-more l s i h e = scan-one l s i h ∙ rw (ne-eqb (getD s i 0) 10 e)
 
--- a line whose text stands for bytes
-pub frame-bytes : (n k : ℕ) (line out : List ℕ) → n ≤ longest → bytes (take k out) ≡ readHex (take n line) → take k out ≡ frameOfLine (lineOf n line)
-frame-bytes n k line out h e = rw (le-leb n longest h) (ap bytesOr e)
+  -- a character that there is room for
+  pub more-kept : (k c : ℕ) (line : List ℕ) → length line ≡ longest → k < longest → more longest (lineOf longest k line) c ≡ lineOf longest (k + 1) (set line k c)
+  more-kept k c line e h =
+      let a : k ≤ longest = omega arith in
+      let b : k + 1 ≤ longest = omega arith in
+      let d : k ≤ length line = omega arith in
+      let f : k < length line = omega arith in
+      rw (le-leb k longest a, le-leb (k + 1) longest b, length-take-le k line d, lt-ltb k longest h) (ap kept (sym (stored line k c f)))
 
--- one whose text stands for none
-pub frame-faulty : (n : ℕ) (line : List ℕ) → n ≤ longest → faultyText ≡ readHex (take n line) → [] ≡ frameOfLine (lineOf n line)
-frame-faulty n line h e = rw (le-leb n longest h) (ap bytesOr e)
+  -- one that there is none for
+  pub more-over : (k c : ℕ) (line : List ℕ) → length line ≡ longest → longest ≤ k → more longest (lineOf longest k line) c ≡ lineOf longest (longest + 1) line
+  more-over k c line e h = by (leb k longest) refl ∙ rw (lt-leb (longest + 1) longest (omega arith))
+    where
+      by : (b : Bool) → leb k longest ≡ b → more longest (cond b (kept (take k line)) over) c ≡ over
+      by true p =
+          let d : k ≤ length line = omega (arith, leb-true k longest p) in
+          rw (length-take-le k line d, le-ltb k longest h)
+      by false p = refl
 
--- one that is too long
-pub frame-over : (n : ℕ) (line : List ℕ) → longest < n → [] ≡ frameOfLine (lineOf n line)
-frame-over n line h = rw (lt-leb n longest h)
+  -- a line whose text stands for bytes
+  pub frame-bytes : (n k : ℕ) (line out : List ℕ) → n ≤ longest → bytes (take k out) ≡ readHex (take n line) → take k out ≡ frameOfLine (lineOf longest n line)
+  frame-bytes n k line out h e = rw (le-leb n longest h) (ap bytesOr e)
+
+  -- one whose text stands for none
+  pub frame-faulty : (n : ℕ) (line : List ℕ) → n ≤ longest → faultyText ≡ readHex (take n line) → [] ≡ frameOfLine (lineOf longest n line)
+  frame-faulty n line h e = rw (le-leb n longest h) (ap bytesOr e)
+
+  -- one that is too long
+  pub frame-over : (n : ℕ) (line : List ℕ) → longest < n → [] ≡ frameOfLine (lineOf longest n line)
+  frame-over n line h = rw (lt-leb n longest h)

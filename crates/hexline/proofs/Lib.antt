@@ -1,4 +1,2 @@
--- Laws of the definitions: of the text and lines, of a program that answers each line, and of the frames that it answers.
+-- Laws of the definitions of `lines` that this crate's proofs, and a caller's, cite.
 pub mod HexLines
-pub mod Talk
-pub mod Frames

@@ -1,6 +1,2 @@
--- Lines of hexadecimal, in the order to read them: digits and bytes, lines of a stream, what a program says that answers each
--- line, and the frames of a whole input.
-pub mod Hex
-pub mod Lines
-pub mod Talk
-pub mod Frames
+-- What this crate's answers say of the buffers that are lent with a call. Lines themselves are those of `lines`.
+pub mod Buffers

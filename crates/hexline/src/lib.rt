@@ -1,17 +1,17 @@
 // Lines of hexadecimal: a line is gathered from chunks of input, read as the frame that it stands for, and bytes and small
 // numbers are written as text.
+//
+// A line is kept in a buffer that is as long as the longest line that counts. One that has more characters is kept as a count of one more.
 ghost use mathlib.Core.Path.{_≡_};
 ghost use mathlib.Core.List.{List, _++_};
 ghost use Prim.Native.Nat.{ℕ, _+_, _*_, _≤_, _<_};
 ghost use lib.ListN.{length, take, drop};
-ghost use Rattle.hexline.specs.Hex.{valueOf, readHex, readIn, byteCount, digitOf, hexOf, decimalOf};
-ghost use Rattle.hexline.specs.Lines.{longest, Buffers, lineOf, scan, scanned, Stopped, frameOfLine};
-
-// The most characters of a line that counts, as `longest` says. A line that has more is kept as the count LONGEST + 1.
-const LONGEST: usize = 1028;
+ghost use Rattle.lines.specs.Hex.{valueOf, readHex, digitOf, hexOf, decimalOf};
+ghost use Rattle.lines.specs.Lines.{lineOf, scan, frameOfLine};
+ghost use Rattle.hexline.specs.Buffers.{readIn, byteCount, scanned, Stopped};
 
 // The value of a digit, or 16 for a character that is none.
-fn value(c: u8) -> u8
+pub fn value(c: u8) -> u8
     ensures { λ r. ⌜ r ≡ valueOf c ⌝ }
 {
     if (48 <= c) & (c <= 57) {
@@ -110,10 +110,10 @@ pub struct Gathered {
 }
 
 // Goes on to the next LF, or to the chunk's end, with a line that is full: any other character makes it too long.
-fn skip(chunk: &[u8], from: usize, n: usize) -> Gathered
-    requires { ⌜ (from ≤ length (now chunk)) × (longest ≤ n) × (n ≤ longest + 1) ⌝ }
-    ensures { λ r. ⌜ Stopped from (length (now (chunk .entry))) r ⌝ }
-    ensures { λ r. ⌜ ((line : List ℕ) → length line ≡ longest → scanned r line (now (chunk .entry)) ≡ scan (lineOf n line) (drop from (now (chunk .entry)))) ⌝ }
+fn skip(chunk: &[u8], from: usize, n: usize, longest: usize) -> Gathered
+    requires { ⌜ (from ≤ length (now chunk)) × (longest ≤ n) × (n ≤ longest + 1) × (longest < 65536) ⌝ }
+    ensures { λ r. ⌜ Stopped longest from (length (now (chunk .entry))) r ⌝ }
+    ensures { λ r. ⌜ ((line : List ℕ) → length line ≡ longest → scanned longest r line (now (chunk .entry)) ≡ scan longest (lineOf longest n line) (drop from (now (chunk .entry)))) ⌝ }
 {
     let mut i = from;
     let mut k = n;
@@ -127,7 +127,7 @@ fn skip(chunk: &[u8], from: usize, n: usize) -> Gathered
                 ended: true,
             };
         }
-        k = LONGEST + 1;
+        k = longest + 1;
     }
     Gathered {
         at: i,
@@ -138,13 +138,14 @@ fn skip(chunk: &[u8], from: usize, n: usize) -> Gathered
 
 // Takes the characters of chunk from index `from` up to the next LF, or to the chunk's end, into the line of n characters.
 pub fn gather(chunk: &[u8], from: usize, n: usize, line: &mut [u8]) -> Gathered
-    requires { ⌜ (from ≤ length (now chunk)) × (n ≤ longest + 1) × (length (now line) ≡ longest) ⌝ }
-    ensures { λ r. ⌜ Stopped from (length (now (chunk .entry))) r ⌝ }
-    ensures { λ r. ⌜ scanned r (now (line .exit)) (now (chunk .entry)) ≡ scan (lineOf n (now (line .entry))) (drop from (now (chunk .entry))) ⌝ }
+    requires { ⌜ (from ≤ length (now chunk)) × (n ≤ length (now line) + 1) × (length (now line) < 65536) ⌝ }
+    ensures { λ r. ⌜ Stopped (length (now (line .entry))) from (length (now (chunk .entry))) r ⌝ }
+    ensures { λ r. ⌜ scanned (length (now (line .entry))) r (now (line .exit)) (now (chunk .entry)) ≡ scan (length (now (line .entry))) (lineOf (length (now (line .entry))) n (now (line .entry))) (drop from (now (chunk .entry))) ⌝ }
 {
+    let longest = line.len();
     let mut i = from;
     let mut k = n;
-    while (i < chunk.len()) & (k < LONGEST) {
+    while (i < chunk.len()) & (k < longest) {
         let c = chunk[i];
         i += 1;
         if c == 10 {
@@ -157,23 +158,23 @@ pub fn gather(chunk: &[u8], from: usize, n: usize, line: &mut [u8]) -> Gathered
         line[k] = c;
         k += 1;
     }
-    if k < LONGEST {
+    if k < longest {
         return Gathered {
             at: i,
             n: k,
             ended: false,
         };
     }
-    skip(chunk, i, k)
+    skip(chunk, i, k, longest)
 }
 
 // The frame that a line of n characters stands for: how many bytes of `frame` it has.
 pub fn frame_of(line: &[u8], n: usize, frame: &mut [u8]) -> usize
-    requires { ⌜ Buffers n (now line) (now frame) ⌝ }
+    requires { ⌜ length (now line) ≤ 2 * length (now frame) ⌝ }
     ensures { λ r. ⌜ r ≤ length (now (frame .entry)) ⌝ }
-    ensures { λ r. ⌜ take r (now (frame .exit)) ≡ frameOfLine (lineOf n (now (line .entry))) ⌝ }
+    ensures { λ r. ⌜ take r (now (frame .exit)) ≡ frameOfLine (lineOf (length (now (line .entry))) n (now (line .entry))) ⌝ }
 {
-    if LONGEST < n {
+    if line.len() < n {
         return 0;
     }
     let d = decode(&line[..n], frame);

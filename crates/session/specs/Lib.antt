@@ -1,5 +1,2 @@
--- What programs bench and reader write: each for a frame, then both for an input; and what that is in document 01's words.
-pub mod Bench
-pub mod Reader
-pub mod Programs
-pub mod Says
+-- What the library of both programs promises of a chunk.
+pub mod Turns

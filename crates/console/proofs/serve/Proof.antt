@@ -17,7 +17,7 @@ slice-aggregate-run-4 : tie.Need-slice-aggregate-run-4
 slice-aggregate-run-4 c = search needs
 
 run-requires : tie.Need-run-requires
-run-requires c κs = (record { small = omega arith; line-size = omega arith; frame-size = omega arith }, omega arith, c .before .before .before .before .before .before .pre)
+run-requires c κs = (record { buffers = record { small = omega arith; line-size = omega arith; frame-size = omega arith }; chunk-size = omega arith; text = omega arith; out-size = omega arith }, omega arith, c .before .before .before .before .before .before .pre)
 
 same-length : tie.Need-same-length
 same-length c = search needs

@@ -1,7 +1,7 @@
 -- `console::serve_controller` is safe and ends, and serves its input from a controller that was started on zeros. Assumes nothing.
 use mathlib.Core.Path.{ap}
 use Rattle.lent.specs.Told.{Told}
-use Rattle.session.specs.Bench.{begun}
+use Rattle.programs.specs.Bench.{begun}
 use borrow.Author.Needs.{needs}
 use Rattle.console.proofs.serve_controller.Statement.{statement}
 use Rattle.console.proofs.serve_controller.Tie as tie

@@ -1,7 +1,7 @@
 -- `console::serve_reader` is safe and ends, and serves its input from a reader that was started on zeros. Assumes nothing.
 use mathlib.Core.Path.{ap}
 use Rattle.lent.specs.Told.{Told}
-use Rattle.session.specs.Reader.{begun}
+use Rattle.programs.specs.Reader.{begun}
 use borrow.Author.Needs.{needs}
 use Rattle.console.proofs.serve_reader.Statement.{statement}
 use Rattle.console.proofs.serve_reader.Tie as tie

@@ -4,7 +4,7 @@ use Prim.Native.Nat.{_≤_, _-_, _*_}
 use mathlib.Core.Path.{_≡_, refl, sym, ap, _∙_}
 use native.Mathlib.Omega.{arith}
 use lib.ListN.{length, take, drop, length-set}
-use Rattle.hexline.specs.Hex.{bytesInFront, readHex}
+use Rattle.lines.specs.Hex.{bytesInFront, readHex}
 use Rattle.hexline.proofs.HexLines.{fronts-none, read-step, read-high, read-low, read-odd, read-end}
 use Rattle.hexline.proofs.decode.Statement.{statement}
 use Rattle.hexline.proofs.decode.Tie as tie

@@ -5,7 +5,7 @@ use mathlib.Core.Path.{_≡_, refl, sym, _∙_}
 use mathlib.Core.List.{_++_}
 use native.Mathlib.Omega.{arith}
 use lib.ListN.{length, take, drop, length-set}
-use Rattle.hexline.specs.Hex.{hexOf}
+use Rattle.lines.specs.Hex.{hexOf}
 use Rattle.hexline.proofs.HexLines.{hex-step, hex-end}
 use Rattle.hexline.proofs.encode.Statement.{statement}
 use Rattle.hexline.proofs.encode.Tie as tie

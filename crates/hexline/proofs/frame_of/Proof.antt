@@ -2,17 +2,17 @@
 -- Assumes nothing.
 use mathlib.Core.Path.{_≡_, sym, ap, _∙_}
 use native.Mathlib.Omega.{arith}
-use borrow.Author.Needs.{needs}
 use lib.ListN.{length, take}
 use lib.Seq.{length-take-le}
 use Rattle.hexline.proofs.HexLines.{frame-bytes, frame-faulty, frame-over}
 use Rattle.hexline.specs.declared.Decoded.{Decoded}
-use Rattle.hexline.specs.Hex.{readIn, byteCount}
+use Rattle.hexline.specs.Buffers.{readIn, byteCount}
+use borrow.Author.Needs.{needs}
 use Rattle.hexline.proofs.frame_of.Statement.{statement}
 use Rattle.hexline.proofs.frame_of.Tie as tie
 
 returns : tie.Need-returns
-returns c = (omega arith, frame-over _ _ (c .if1 .taken))
+returns c = (omega arith, frame-over (length (c .before .before .before .args .line .now)) _ _ (c .if1 .taken))
 
 slice-aggregate-decode : tie.Need-slice-aggregate-decode
 slice-aggregate-decode c = sym (length-take-le _ _ (omega arith))
@@ -38,7 +38,7 @@ returns-2 c =
     let a = c .before .before .before .before .before .before .before .before .before .before .before .args in
     let e = c .before .d .given .1 in (
       omega (arith, ap byteCount e),
-      frame-bytes (a .n) (c .before .d .given .0 .0) (a .line .now) (d .last .1 .0) (omega arith) (ap (λ (x : Decoded). readIn x (d .last .1 .0)) (sym e) ∙ d .ensures .1),
+      frame-bytes (length (a .line .now)) (a .n) (c .before .d .given .0 .0) (a .line .now) (d .last .1 .0) (omega arith) (ap (λ (x : Decoded). readIn x (d .last .1 .0)) (sym e) ∙ d .ensures .1),
     )
 
 same-length-2 : tie.Need-same-length-2
@@ -50,7 +50,7 @@ returns-3 c =
     let a = c .before .before .before .before .before .before .before .before .before .before .args in
     let e = c .enum-told .given .1 in (
       omega arith,
-      frame-faulty (a .n) (a .line .now) (omega arith) (ap (λ (x : Decoded). readIn x (d .last .1 .0)) (sym e) ∙ d .ensures .1),
+      frame-faulty (length (a .line .now)) (a .n) (a .line .now) (omega arith) (ap (λ (x : Decoded). readIn x (d .last .1 .0)) (sym e) ∙ d .ensures .1),
     )
 
 pub frame-of-spec : {M : Type 1} → statement M

@@ -6,10 +6,10 @@ use mathlib.Core.List.{List, [], _∷_, _++_}
 use native.Mathlib.Omega.{arith}
 use lib.ListN.{take}
 use lib.Seq.{length-take-le}
-use Rattle.hexline.specs.Hex.{hexOf}
+use Rattle.lines.specs.Hex.{hexOf}
 use Rattle.lent.specs.Told.{Res, res}
 use Rattle.machine.specs.Called.{stepOf}
-use Rattle.session.specs.Bench.{answered, blank}
+use Rattle.programs.specs.Bench.{answered, blank}
 use borrow.Author.Needs.{needs}
 use Rattle.session.proofs.answer_controller.Statement.{statement}
 use Rattle.session.proofs.answer_controller.Tie as tie
@@ -20,17 +20,17 @@ slice-aggregate-frame c = search needs
 frame-requires : tie.Need-frame-requires
 frame-requires c κs = search needs
 
-count-of-requires : tie.Need-count-of-requires
-count-of-requires c κs = search needs
+bytes-written-requires : tie.Need-bytes-written-requires
+bytes-written-requires c κs = search needs
 
 array-share-prefix-piece : tie.Need-array-share-prefix-piece
 array-share-prefix-piece c = search needs
 
 slice-aggregate-put-line : tie.Need-slice-aggregate-put-line
-slice-aggregate-put-line c = sym (length-take-le (c .before .count-of .result) (c .before .before .before .before .before .frame .last .1 .1 .0) (omega (arith, c .before .before .before .before .before .frame .kept .1 .1 .0)))
+slice-aggregate-put-line c = sym (length-take-le (c .before .bytes-written .result) (c .before .before .before .before .before .frame .last .1 .1 .0) (omega (arith, c .before .before .before .before .before .frame .kept .1 .1 .0)))
 
 put-line-requires : tie.Need-put-line-requires
-put-line-requires c κs = omega (arith, c .before .before .before .before .before .before .before .before .before .before .before .before .pre, length-take-le (c .before .before .count-of .result) (c .before .before .before .before .before .before .frame .last .1 .1 .0) (omega (arith, c .before .before .before .before .before .before .frame .kept .1 .1 .0)))
+put-line-requires c κs = omega (arith, c .before .before .before .before .before .before .before .before .before .before .before .before .pre, length-take-le (c .before .before .bytes-written .result) (c .before .before .before .before .before .before .frame .last .1 .1 .0) (omega (arith, c .before .before .before .before .before .before .frame .kept .1 .1 .0)))
 
 same-length : tie.Need-same-length
 same-length c = search needs
@@ -46,10 +46,10 @@ returns c =
     let w = c .before .before .put-line in
     let front : List ℕ = take (a .used) (a .out .now) in
     let e : res (d .result) (d .last .1 .1 .0) (d .last .0) ≡ stepOf (a .state .now) (a .f .now) blank = d .ensures in (
-      omega (arith, c .before .before .before .before .before .before .before .before .before .before .before .before .before .before .before .pre, length-take-le (c .before .before .before .before .before .count-of .result) (c .before .before .before .before .before .before .before .before .before .frame .last .1 .1 .0) (omega (arith, c .before .before .before .before .before .before .before .before .before .frame .kept .1 .1 .0))),
+      omega (arith, c .before .before .before .before .before .before .before .before .before .before .before .before .before .before .before .pre, length-take-le (c .before .before .before .before .before .bytes-written .result) (c .before .before .before .before .before .before .before .before .before .frame .last .1 .1 .0) (omega (arith, c .before .before .before .before .before .before .before .before .before .frame .kept .1 .1 .0))),
       (
         w .ensures .1
-            ∙ ap (λ (n : ℕ). front ++ (hexOf (d .result ∷ take n (d .last .1 .1 .0)) ++ (10 ∷ []))) (c .before .before .before .before .before .count-of .ensures .1)
+            ∙ ap (λ (n : ℕ). front ++ (hexOf (d .result ∷ take n (d .last .1 .1 .0)) ++ (10 ∷ []))) (c .before .before .before .before .before .bytes-written .ensures .1)
             ∙ ap (λ (x : Res). front ++ answered (a .f .now) x .text) e,
         ap (λ (x : Res). x .state) e,
       ),
@@ -61,7 +61,7 @@ answer-controller-spec =
     (tie.spec
     slice-aggregate-frame
     frame-requires
-    count-of-requires
+    bytes-written-requires
     array-share-prefix-piece
     slice-aggregate-put-line
     put-line-requires

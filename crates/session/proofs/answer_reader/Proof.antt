@@ -8,8 +8,8 @@ use lib.ListN.{take}
 use lib.Seq.{length-take-le}
 use Rattle.lent.specs.Told.{Res, res}
 use Rattle.shelf.specs.Received.{readOf}
-use Rattle.session.specs.Reader.{lineFor, answered, blank}
-use Rattle.session.proofs.Written.{replied}
+use Rattle.programs.specs.Reader.{lineFor, answered, blank}
+use Rattle.session.proofs.Replied.{replied}
 use borrow.Author.Needs.{needs}
 use Rattle.session.proofs.answer_reader.Statement.{statement}
 use Rattle.session.proofs.answer_reader.Tie as tie

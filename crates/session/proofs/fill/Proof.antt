@@ -4,8 +4,8 @@ use Prim.Native.Nat.{_≤_, _<_, _-_, _+_}
 use mathlib.Core.Path.{_≡_, refl, _∙_}
 use native.Mathlib.Omega.{arith}
 use lib.ListN.{length}
-use Rattle.hexline.specs.Lines.{longest}
-use Rattle.session.specs.Programs.{mostText, toCome}
+use Rattle.programs.specs.Programs.{longest}
+use Rattle.session.specs.Turns.{mostText, toCome}
 use Rattle.session.proofs.fill.Statement.{statement}
 use Rattle.session.proofs.fill.Tie as tie
 

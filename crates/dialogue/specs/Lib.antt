@@ -1,0 +1,2 @@
+-- What the loop of both programs makes of what its reads bring.
+pub mod Loop

@@ -1,0 +1,2 @@
+-- Laws of the lines that bench and reader write.
+pub mod Written
