@@ -1,4 +1,5 @@
-/* model_reader.c: program reader, made of the model; for make measure. */
+/* model_reader.c: program reader, made of the model and written to be read:
+ * what the proved program must answer; for make measure too. */
 #include "lines.h"
 #include "model.h"
 

@@ -327,7 +327,7 @@ static int give(const uint8_t *bytes, size_t n)
 
 static int text(const char *hex)
 {
-    uint8_t frame[514];
+    uint8_t frame[LINE_BYTES];
 
     return give(frame, line_bytes(hex, strlen(hex), frame));
 }
@@ -467,7 +467,7 @@ static unsigned impact_now(void)
  * bytes, in capitals. */
 static size_t bench_line(const char *line, size_t digits, char *printed)
 {
-    uint8_t frame[514];
+    uint8_t frame[LINE_BYTES];
     size_t n = line_bytes(line, digits, frame), i, at;
 
     at = (size_t)sprintf(printed, "%02X", (unsigned)give(frame, n));
@@ -481,7 +481,7 @@ static size_t bench_line(const char *line, size_t digits, char *printed)
 /* Either case, faulty and over-long lines. */
 static void test_bench_lines(void)
 {
-    char line[1031];
+    char line[LINE_DIGITS + 3];
 
     fresh();
     SAME(text("060a5a07"), 0);
@@ -489,11 +489,11 @@ static void test_bench_lines(void)
     SAME(text("060a5x07"), 1);
     SAME(text("060a5a07 "), 1);
     SAME(set_mode(5), 0);
-    memset(line, 'c', 1030);
+    memset(line, 'c', LINE_DIGITS + 2);
     memcpy(line, "040B", 4);
-    line[1030] = 0;
+    line[LINE_DIGITS + 2] = 0;
     SAME(text(line), 1);
-    line[1028] = 0;
+    line[2 * FRAME_MOST] = 0;
     SAME(text(line), 0);
     SAME(ledger.waits, 5);
 }

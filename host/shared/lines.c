@@ -22,7 +22,7 @@ size_t line_bytes(const char *text, size_t digits, uint8_t *bytes)
 {
     size_t i;
 
-    if (digits > 2 * LINE_BYTES || digits % 2 != 0)
+    if (digits > LINE_DIGITS || digits % 2 != 0)
         return 0;
     for (i = 0; i < digits; i += 2) {
         int high = digit_of(text[i]), low = digit_of(text[i + 1]);
@@ -74,7 +74,7 @@ static void answer_line(line_answer *answer, const char *line, size_t digits)
 }
 
 /* The line that is being read: its digits, and how many it would have. */
-static char line[2 * LINE_BYTES + 1];
+static char line[LINE_DIGITS + 1];
 static size_t line_length;
 
 static void take(const char *text, size_t n)

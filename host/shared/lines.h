@@ -1,13 +1,13 @@
 /* lines.h: lines of hexadecimal as the programs take them: either case, at
- * most 1,028 digits, LF; a last line may lack it if not empty; a faulty or
- * over-long line counts as empty. */
+ * most LINE_DIGITS digits, LF; a last line may lack it if not empty; a faulty
+ * or over-long line counts as empty. */
 #ifndef LINES_H
 #define LINES_H
 
 #include <stddef.h>
 #include <stdint.h>
 
-enum { LINE_BYTES = 514, ANSWER_MOST = 2048 };
+enum { LINE_DIGITS = 1028, LINE_BYTES = LINE_DIGITS / 2, ANSWER_MOST = 2048 };
 
 /* The bytes of a line of so many digits; 0 where it is faulty or too long. */
 size_t line_bytes(const char *text, size_t digits, uint8_t *bytes);
