@@ -4,7 +4,7 @@
 #   make test       the gate: proves everything from nothing, tries every edit that must be refused, runs programs and host tests
 #   make host       the host tests alone
 #   make soak       a longer comparison of library and model (ROUNDS=20)
-#   make measure    instructions and stack against the C model; writes docs/MEASURED.md
+#   make measure    instructions and stack against the C model and programs of it; writes docs/MEASURED.md
 #   make install    library, headers, pkg-config file, programs and man pages (PREFIX=/usr/local, DESTDIR=)
 #   make uninstall  removes what install put there (the same PREFIX and DESTDIR)
 #   make clean      removes target/, where all that is built stands, and nothing else
