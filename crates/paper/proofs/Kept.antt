@@ -275,13 +275,14 @@ unfolding pollOutputFrom pollOutput
 shown-size c cc [] w h = absurd (h refl)
 shown-size c cc (p ∷ rest) w h = omega (arith, w .0)
 
-answer-size : (c : Controller) (f : Frame) → Kept c → Clear c f 9 → length (answer c f) ≡ written f
+-- of any controller whose pieces are whole
+pub answer-size : (c : Controller) (f : Frame) → Whole (c .streams .queue) → Clear c f 9 → length (answer c f) ≡ written f
 unfolding answer
 answer-size c (broadcast cc time altitude spin phase) k e = refl
 answer-size c (command cc id sequence parameters) k e = refl
 answer-size c (tick r) k e = refl
 answer-size c (sample s x) k e = refl
-answer-size c (poll cc) k e = shown-size c cc (c .streams .queue) (k .whole) (eqb-false (length (c .streams .queue)) 0 e)
+answer-size c (poll cc) k e = shown-size c cc (c .streams .queue) k (eqb-false (length (c .streams .queue)) 0 e)
 answer-size c (status cc low flags) k e = refl
 answer-size c (analogue bytes) k e = refl
 answer-size c faulty k e = refl
@@ -291,7 +292,7 @@ pub writes : (c : Controller) (bytes : List ℕ) (room : ℕ) → Kept c → ste
 unfolding step replied
 writes c bytes room k e =
     let r : reply (holds c) (frameOf bytes) room ≡ 0 = sym (reply-is c bytes room) ∙ e in
-    rw r (answer-size c (frameOf bytes) k (passed c (frameOf bytes) room r .waits))
+    rw r (answer-size c (frameOf bytes) (k .whole) (passed c (frameOf bytes) room r .waits))
 
 pub runs-write : (xs : List Call) (x : Call) → step (runs start xs) (x .bytes) (x .room) .reply ≡ 0
     → length (step (runs start xs) (x .bytes) (x .room) .out) ≡ written (frameOf (x .bytes))

@@ -30,7 +30,7 @@ use Rattle.programs.specs.Says.{readerLine, linesOf, lent, Says}
 use Rattle.programs.proofs.Bench.{bench-says}
 
 -- the front of an output that is printed is what was handed out
-front : (f out room : List ℕ) (reply : ℕ) → Listed (be16 f 6 % 16) reply out → take (handed reply f) (put room 0 out) ≡ out
+pub front : (f out room : List ℕ) (reply : ℕ) → Listed (be16 f 6 % 16) reply out → take (handed reply f) (put room 0 out) ≡ out
 unfolding handed
 front f out room reply (inl h) = rw (eq-eqb reply 1 (h .0), ← h .1) (take-append-seam out (drop (0 + length out) room))
 front f out room reply (inr h) = rw (ne-eqb reply 1 (h .0)) (sym (h .1))

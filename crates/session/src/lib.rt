@@ -14,42 +14,53 @@ pub enum Machine {
     Reader,
 }
 
-// Hands a frame to the controller with an output of zeros, and appends the line of what comes of it.
-fn answer_controller(f: &[u8], state: &mut [u8], out: &mut [u8], used: usize) -> usize
-    requires { ⌜ used + mostText ≤ length (now out) ⌝ }
+// Hands a frame to the controller with an output, and appends the line of what comes of it. What stood in the output is not shown.
+fn answer_controller(
+    f: &[u8],
+    room: &mut [u8],
+    state: &mut [u8],
+    out: &mut [u8],
+    used: usize,
+) -> usize
+    requires { ⌜ (length (now room) ≡ 126) × (used + mostText ≤ length (now out)) ⌝ }
     ensures { λ r. ⌜ r ≤ length (now (out .entry)) ⌝ }
     ensures { λ r. ⌜ take r (now (out .exit)) ≡ take used (now (out .entry)) ++ Bench.answerTo (now (state .entry)) (now (f .entry)) .text ⌝ }
     ensures { λ _. ⌜ now (state .exit) ≡ Bench.answerTo (now (state .entry)) (now (f .entry)) .state ⌝ }
 {
-    let mut piece = [0u8; 126];
-    let reply = controller::frame(state, f, &mut piece);
+    let reply = controller::frame(state, f, room);
     let n = wording::bytes_written(reply, f);
-    wording::put_line(reply, &piece[..n], out, used)
+    wording::put_line(reply, &room[..n], out, used)
 }
 
-// Hands a packet to the reader with an output of zeros, and appends the line of what comes of it.
-fn answer_reader(f: &[u8], state: &mut [u8], out: &mut [u8], used: usize) -> usize
-    requires { ⌜ used + mostText ≤ length (now out) ⌝ }
+// Hands a packet to the reader with an output, and appends the line of what comes of it. What stood in the output is not shown.
+fn answer_reader(f: &[u8], room: &mut [u8], state: &mut [u8], out: &mut [u8], used: usize) -> usize
+    requires { ⌜ (length (now room) ≡ 776) × (used + mostText ≤ length (now out)) ⌝ }
     ensures { λ r. ⌜ r ≤ length (now (out .entry)) ⌝ }
     ensures { λ r. ⌜ take r (now (out .exit)) ≡ take used (now (out .entry)) ++ Reader.answerTo (now (state .entry)) (now (f .entry)) .text ⌝ }
     ensures { λ _. ⌜ now (state .exit) ≡ Reader.answerTo (now (state .entry)) (now (f .entry)) .state ⌝ }
 {
-    let mut room = [0u8; 776];
-    let reply = gather::packet(state, f, &mut room);
+    let reply = gather::packet(state, f, room);
     let n = wording::handed(reply, f);
     wording::put_heard(reply, &room[..n], out, used)
 }
 
-// Appends the line of what the machine says to a frame.
-fn answer(machine: Machine, f: &[u8], state: &mut [u8], out: &mut [u8], used: usize) -> usize
-    requires { ⌜ used + mostText ≤ length (now out) ⌝ }
+// Appends the line of what the machine says to a frame. `room` holds its output meanwhile.
+fn answer(
+    machine: Machine,
+    f: &[u8],
+    room: &mut [u8],
+    state: &mut [u8],
+    out: &mut [u8],
+    used: usize,
+) -> usize
+    requires { ⌜ (776 ≤ length (now room)) × (used + mostText ≤ length (now out)) ⌝ }
     ensures { λ r. ⌜ r ≤ length (now (out .entry)) ⌝ }
     ensures { λ r. ⌜ take r (now (out .exit)) ≡ take used (now (out .entry)) ++ answerTo machine (now (state .entry)) (now (f .entry)) .text ⌝ }
     ensures { λ _. ⌜ now (state .exit) ≡ answerTo machine (now (state .entry)) (now (f .entry)) .state ⌝ }
 {
     match machine {
-        Machine::Controller => answer_controller(f, state, out, used),
-        Machine::Reader => answer_reader(f, state, out, used),
+        Machine::Controller => answer_controller(f, &mut room[..126], state, out, used),
+        Machine::Reader => answer_reader(f, &mut room[..776], state, out, used),
     }
 }
 
@@ -83,7 +94,8 @@ fn one(
     if !stop.ended {
         return Turn { at, n: kept, used };
     }
-    let more = answer(machine, &frame[..size], state, out, used);
+    // no character of the line is kept now, so its buffer is free
+    let more = answer(machine, &frame[..size], line, state, out, used);
     Turn {
         at,
         n: 0,

@@ -58,13 +58,13 @@ same-length-6 c = search needs
 
 returns-2 : tie.Need-returns-2
 returns-2 c =
-    let a = c .before .before .before .before .before .before .before .before .before .before .before .before .before .before .before .before .before .before .before .before .before .before .args in
-    let g = c .before .before .before .before .before .before .before .before .before .before .before .before .before .before .next in
-    let w = c .before .before .before .before .answer in
-    let found = subst (λ (m : ℕ). Ended m (a .from) (a .n) (a .chunk .now) (a .line .now) (g .last .1 .1 .1 .1 .0) (g .result)) (c .before .before .before .before .before .before .before .before .before .before .before .before .before .before .before .before .before .before .before .before .before .before .pre .1 .line-size) (g .ensures .1 .if-ended (not-false _ (c .before .before .before .before .before .before .before .before .if1 .left))) in (
+    let a = c .before .before .before .before .before .before .before .before .before .before .before .before .before .before .before .before .before .before .before .before .before .before .before .before .before .args in
+    let g = c .before .before .before .before .before .before .before .before .before .before .before .before .before .before .before .before .before .next in
+    let w = c .before .before .before .before .before .before .answer in
+    let found = subst (λ (m : ℕ). Ended m (a .from) (a .n) (a .chunk .now) (a .line .now) (g .last .1 .1 .1 .1 .0) (g .result)) (c .before .before .before .before .before .before .before .before .before .before .before .before .before .before .before .before .before .before .before .before .before .before .before .before .before .pre .1 .line-size) (g .ensures .1 .if-ended (not-false _ (c .before .before .before .before .before .before .before .before .before .before .before .if1 .left))) in (
       record { at-most = g .ensures .0 .within; small = omega arith; fits = w .ensures .0; onward = λ h k. g .ensures .0 .onward h },
-      turn-ended longest (answerTo (a .machine)) (take (a .used) (a .out .now)) (take (w .result) (w .last .1 .1 .1 .0)) (lineOf longest (a .n) (a .line .now)) (found .whole)
-          (a .state .now) (w .last .1 .1 .0) (drop (g .result .at) (a .chunk .now)) (drop (a .from) (a .chunk .now)) (found .met)
+      turn-ended longest (answerTo (a .machine)) (take (a .used) (a .out .now)) (take (w .result) (w .last .1 .1 .1 .1 .0)) (lineOf longest (a .n) (a .line .now)) (found .whole)
+          (a .state .now) (w .last .1 .1 .1 .0) (drop (g .result .at) (a .chunk .now)) (drop (a .from) (a .chunk .now)) (found .met)
           (w .ensures .1 .0 ∙ ap (λ (x : List ℕ). take (a .used) (a .out .now) ++ answerTo (a .machine) (a .state .now) x .text) (found .frame))
           (w .ensures .1 .1 ∙ ap (λ (x : List ℕ). answerTo (a .machine) (a .state .now) x .state) (found .frame)),
     )
