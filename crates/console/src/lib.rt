@@ -1,8 +1,8 @@
 // Programs bench and reader: a fresh machine, and the loop that serves standard input to its end.
+use answering::Machine;
 use libc::STDERR_FILENO;
-use session::Machine;
 ghost use mathlib.Core.Path.{_≡_};
-ghost use Rattle.session.specs.Turns.{begun};
+ghost use Rattle.answering.specs.Machines.{begun};
 
 // The programs take no arguments: to any, says how a program is used on standard error, and answers true, so that nobody waits for
 // a program that waits for standard input.
@@ -35,6 +35,6 @@ pub fn serve_controller() {
 // Program reader: serves from a fresh reader.
 pub fn serve_reader() {
     let mut state = [0u8; 9962];
-    gather::start(&mut state);
+    shelving::start(&mut state);
     serve(Machine::Reader, &mut state);
 }

@@ -20,17 +20,17 @@ use Rattle.paper.specs.Controller.{start}
 use Rattle.paper.specs.Reader.{fresh, readerStart, sound}
 use Rattle.paper.specs.Runs.{Call}
 use Rattle.paper.specs.History.{sentBy}
-use Rattle.delivery.specs.Polls.{Polled, polled, piecesQueued, polledOf}
+use Rattle.polls.specs.Polls.{Polled, polled, piecesQueued, polledOf}
 use Rattle.delivery.specs.Chosen.{Arrival, ownOf, arrived, NoOthers, Gaps, Comes}
 use Rattle.delivery.specs.HandedOut.{Given, of, handsOut, allAmong, complete}
 use Rattle.delivery.specs.Fates.{Fate, arrivalsFrom, arrivals, Quiet, fatesOf}
 use Rattle.delivery.specs.Demands.{Delivered, ByArrivals, ByFates, Independent}
 use Rattle.paper.proofs.History.{length-cut}
-use Rattle.delivery.proofs.Whole.{Whole, whole-sound, whole-back}
-use Rattle.delivery.proofs.Arrivals.{run, piece, bodies, packet, In, Finishes, reads}
+use Rattle.polls.proofs.Whole.{Whole, whole-sound, whole-back}
+use Rattle.polls.proofs.Arrivals.{run, piece, bodies, packet, In, Finishes, reads}
 use Rattle.delivery.proofs.Reading.{trimmed, reads-one}
-use Rattle.delivery.proofs.Sending.{Wholes, sent-whole}
-use Rattle.delivery.proofs.Polled.{polled-fine}
+use Rattle.polls.proofs.Sending.{Wholes, sent-whole}
+use Rattle.polls.proofs.Polled.{polled-fine}
 use Rattle.delivery.proofs.Way.{prefix, chosen-front, arrivals-chosen, Told, told, told-arrives, told-in, fates-others, others-front, found, given-found, given-roomy, told-pieces, same-fates}
 use Rattle.delivery.proofs.QueueOrder.{own-append, arrived-append}
 use Rattle.delivery.proofs.Selected.{completeOf, selected}

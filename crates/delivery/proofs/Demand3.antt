@@ -1,7 +1,7 @@
 -- Demand 3 holds.
 -- Assumes nothing.
 use Rattle.delivery.specs.Demands.{Demand3}
-use Rattle.delivery.proofs.Polled.{polled-numbered, polled-outputs}
+use Rattle.polls.proofs.Polled.{polled-numbered, polled-outputs}
 use Rattle.delivery.proofs.Delivery.{delivers, begins, by-arrivals, fates-come, by-fates, always, independent}
 use Rattle.delivery.proofs.Together.{in-order, in-order-always}
 

@@ -13,6 +13,7 @@ use lib.ListN.{length, take, drop, length-append, length-drop}
 use lib.Seq.{length-take-le}
 use borrow.Author.Tests.{eqb-true, eqb-false, ltb-true}
 use Rattle.wire.specs.Wire.{be16}
+use Rattle.wire.proofs.Both.{both}
 use Rattle.paper.specs.Streams.{pieces, listed, carried}
 use Rattle.paper.specs.Packets.{joined}
 use Rattle.paper.specs.Queue.{replaced}
@@ -63,19 +64,11 @@ module _ (k : ℕ) (kp : 0 < k) (count : ℕ) (x : List ℕ) (long : length x �
   sizes-moves t z d true goesOn a g =
       sizes-gathers _ (placed k (t .place) d) (x ∷ []) refl (mod-lt (t .place + d) kp) (ap suc (sym (eqb-true _ 0 a))) (long, tt)
   sizes-moves t z d false true a g =
-      let one : d ≡ 1 = eqb-true d 1 (first (eqb d 1) (t .running) g) in
+      let one : d ≡ 1 = eqb-true d 1 (both (eqb d 1) (t .running) g .0) in
       let next : placed k (t .place) d ≡ suc (t .place) = ap (placed k (t .place)) one ∙ next-place (t .place) (z .within) (rw one at a) in
       sizes-gathers _ (placed k (t .place) d) (t .gathered ++ (x ∷ [])) refl (mod-lt (t .place + d) kp)
-      (length-append (t .gathered) (x ∷ []) ∙ omega (arith, z .many (second (eqb d 1) (t .running) g), next))
+      (length-append (t .gathered) (x ∷ []) ∙ omega (arith, z .many (both (eqb d 1) (t .running) g .1), next))
       (full-snoc (t .gathered) x (z .full) long)
-    where
-      first : (a b : Bool) → (a && b) ≡ true → a ≡ true
-      first true b h = refl
-      first false b h = h
-
-      second : (a b : Bool) → (a && b) ≡ true → b ≡ true
-      second true b h = h
-      second false b h = absurd (false≢true h)
   sizes-moves t z d false false a g =
       record { within = mod-lt (t .place + d) kp; many = λ h. absurd (false≢true h); full = tt }
 

@@ -16,7 +16,7 @@ use Rattle.paper.specs.Step.{reply, refused, replied, step}
 use Rattle.paper.specs.Reader.{arrive, wellFormed, packetOf, sound, readerStart, received, understood, readerStep}
 use Rattle.paper.specs.Runs.{readings}
 use Rattle.paper.specs.History.{fullPacket, sent, sentAt, sentBy, countsAfter, numberedAll, takesAt}
-use Rattle.delivery.specs.Polls.{numbersAfter, takenAt, polledFrom, polled, polledOf}
+use Rattle.polls.specs.Polls.{numbersAfter, takenAt, polledFrom, polled, polledOf}
 use Rattle.delivery.specs.Chosen.{ownOf}
 use Rattle.delivery.specs.HandedOut.{handedOut, complete}
 use Rattle.delivery.specs.Demands.{twoPackets, Loss}

@@ -16,14 +16,14 @@ use Rattle.paper.specs.Streams.{pieces}
 use Rattle.paper.specs.Packets.{cut}
 use Rattle.paper.specs.Queue.{Piece, piece, numbered, after, replaced}
 use Rattle.paper.specs.History.{numberedAll}
-use Rattle.delivery.specs.Polls.{Polled}
+use Rattle.polls.specs.Polls.{Polled}
 use Rattle.delivery.specs.Chosen.{Arrival, own, strange, ownOf, arrived}
 use Rattle.delivery.specs.HandedOut.{allAmong, complete}
 use Rattle.delivery.specs.Fates.{Fate, lost, came, again, noise, repeats, arrivalsFrom}
 use Rattle.paper.proofs.History.{length-cut}
-use Rattle.delivery.proofs.Sending.{Wholes}
-use Rattle.delivery.proofs.Arrivals.{In}
-use Rattle.delivery.proofs.Polled.{map-append, Sub, sub-skip, after-suc}
+use Rattle.polls.proofs.Sending.{Wholes}
+use Rattle.polls.proofs.Arrivals.{In}
+use Rattle.polls.proofs.Polled.{map-append, Sub, sub-skip, after-suc}
 use Rattle.delivery.proofs.Selected.{all-in, in-all}
 
 -- ---- the numbers that arrived, with one arrival more

@@ -16,7 +16,7 @@ use Rattle.paper.specs.Queue.{replaced}
 use Rattle.paper.specs.Reader.{ArrivalEffect, repeated, taken, finished, arrive, Packet, packet, notCarried, noPacket, wellFormed, packetOf, sound, Reader, ReaderOutcome, readerOutcome, received, understood, readerStep}
 use Rattle.paper.specs.Runs.{Call, readings}
 use Rattle.delivery.specs.HandedOut.{handedOut, of}
-use Rattle.delivery.proofs.Arrivals.{run}
+use Rattle.polls.proofs.Arrivals.{run}
 
 -- ---- what is kept of one stream
 

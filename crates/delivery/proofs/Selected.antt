@@ -13,7 +13,7 @@ use lib.ListN.{length, getD, length-append}
 use lib.Seq.{getD-append-seam, append-snoc}
 use borrow.Author.Tests.{eqb-true, eq-eqb}
 use Rattle.delivery.specs.HandedOut.{among, allAmong}
-use Rattle.delivery.proofs.Arrivals.{In, Increasing}
+use Rattle.polls.proofs.Arrivals.{In, Increasing}
 
 -- ---- an increasing list is known by its members
 

@@ -21,7 +21,7 @@ use Rattle.paper.specs.Step.{reply, refused, replied, step}
 use Rattle.paper.specs.Reader.{arrive, wellFormed, packetOf, sound, readerStart, received, understood, readerStep}
 use Rattle.paper.specs.Runs.{Call, call, runs, readings}
 use Rattle.paper.specs.History.{fullPacket, sent, sentAt, sentBy, countsAfter, numberedAll, takesAt}
-use Rattle.delivery.specs.Polls.{Numbers, numbersAfter, takenAt, polledFrom, polled}
+use Rattle.polls.specs.Polls.{Numbers, numbersAfter, takenAt, polledFrom, polled}
 use Rattle.delivery.specs.Chosen.{Arrival, frame, ownOf, arrived}
 use Rattle.delivery.specs.HandedOut.{Given, handedOut, of, handsOut, complete, arrivedWhole}
 use Rattle.delivery.specs.Fates.{Fate, came, arrivalsFrom, arrivals, Quiet}

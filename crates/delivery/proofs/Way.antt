@@ -19,13 +19,13 @@ use Rattle.paper.specs.Queue.{replaced}
 use Rattle.paper.specs.Reader as reader
 use Rattle.paper.specs.Reader.{Packet, packet, notCarried, noPacket, packetOf, sound, Reader, readerOutcome, received, understood, readerStart}
 use Rattle.paper.specs.Runs.{Call}
-use Rattle.delivery.specs.Polls.{Polled, polledOf}
+use Rattle.polls.specs.Polls.{Polled, polledOf}
 use Rattle.delivery.specs.Chosen.{Chosen, Arrival, own, strange, ownOf, isOf, NoOthers, Gaps}
 use Rattle.delivery.specs.HandedOut.{Given}
 use Rattle.delivery.specs.Fates.{Fate, lost, came, again, noise, repeats, arrivalsFrom, NoPacket, Quiet, fatesOf}
-use Rattle.delivery.proofs.Arrivals.{In, Arrives, piece}
+use Rattle.polls.proofs.Arrivals.{In, Arrives, piece}
 use Rattle.delivery.proofs.Reading.{mine, packetsOf, Roomy, has-room}
-use Rattle.delivery.proofs.Polled.{Fine, Genuine, Genuines}
+use Rattle.polls.proofs.Polled.{Fine, Genuine, Genuines}
 
 -- ---- what is known of arrivals
 

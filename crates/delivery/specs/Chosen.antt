@@ -8,7 +8,7 @@ use Prim.Native.Nat.{ℕ, suc, _+_, _≤_}
 use lib.Dec.{eqb}
 use Rattle.paper.specs.Reader.{Packet, packet, notCarried, noPacket, packetOf}
 use Rattle.paper.specs.Runs.{Call}
-use Rattle.delivery.specs.Polls.{Polled, polled, polledOf}
+use Rattle.polls.specs.Polls.{Polled, polled, polledOf}
 
 -- ---- "lose any, repeat any unaltered as the next arrival of its stream"
 

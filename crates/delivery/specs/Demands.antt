@@ -20,7 +20,7 @@ use lib.ListN.{take, drop, replicate}
 use Rattle.paper.specs.Controller.{start}
 use Rattle.paper.specs.Runs.{Call, call, replies}
 use Rattle.paper.specs.History.{sentBy}
-use Rattle.delivery.specs.Polls.{polled, pollOutputs, Numbered}
+use Rattle.polls.specs.Polls.{polled, pollOutputs, Numbered}
 use Rattle.delivery.specs.Chosen.{Arrival, own, frame, ownOf, arrived, NoOthers, Gaps, Comes}
 use Rattle.delivery.specs.HandedOut.{Given, of, handsOut, arrivedWhole}
 use Rattle.delivery.specs.Fates.{Fate, arrivals, Quiet, fatesOf}

@@ -10,7 +10,7 @@ use lib.Dec.{eqb}
 use Rattle.paper.specs.Queue.{replaced}
 use Rattle.paper.specs.Reader.{readerStart, readerStep}
 use Rattle.paper.specs.Runs.{Call}
-use Rattle.delivery.specs.Polls.{Polled, polled}
+use Rattle.polls.specs.Polls.{Polled, polled}
 use Rattle.delivery.specs.Chosen.{Arrival, own, strange}
 
 -- The next polled packet is lost; it comes; the last arrival of stream s comes again, unaltered; some other frame is put in.

@@ -18,12 +18,12 @@ use Rattle.paper.specs.Runs.{replies, readings}
 use Rattle.paper.specs.History.{isAccepted}
 use Rattle.delivery.specs.Demands as delivery
 use Rattle.delivery.specs.HandedOut as handing
-use Rattle.delivery.specs.Polls.{isPoll, polled, pollOutputs}
+use Rattle.polls.specs.Polls.{isPoll, polled, pollOutputs}
 use Rattle.delivery.specs.Chosen.{Arrival}
 use Rattle.delivery.specs.HandedOut.{of}
 use Rattle.delivery.specs.Fates.{Fate}
 use Rattle.paper.proofs.Kept.{Kept, kept-start, kept-step, written, writes}
-use Rattle.delivery.proofs.Polled.{of-polls}
+use Rattle.polls.proofs.Polled.{of-polls}
 use Rattle.delivery.proofs.Handing.{AtLength, handed-length}
 use Rattle.delivery.proofs.Demand3.{demand3}
 use Rattle.state.specs.Layout.{stateBytes}

@@ -14,7 +14,7 @@ use Rattle.wire.specs.Wire.{be16}
 use Rattle.paper.specs.Frames.{frameOf}
 use Rattle.paper.specs.Streams.{listed}
 use Rattle.paper.specs.History.{isAccepted}
-use Rattle.delivery.specs.Polls.{isPoll, polled}
+use Rattle.polls.specs.Polls.{isPoll, polled}
 use Rattle.delivery.specs.Chosen.{Arrival, ownOf, arrived, NoOthers, Gaps, Comes}
 use Rattle.delivery.specs.HandedOut.{Given, of, arrivedWhole}
 use Rattle.delivery.specs.Fates.{Fate, arrivals, Quiet, fatesOf}

@@ -1,3 +1,2 @@
--- Laws of what a read brings, and of what the loop makes of it.
-pub mod Arriving
-pub mod Talking
+-- Laws of what the loop makes of what reads bring.
+mod Talking

@@ -1,38 +1,25 @@
--- Laws of what is to come of an input while its text is written part by part. Assumes nothing.
+-- Laws of what comes of what reads bring, one after the other. Assumes nothing.
 use mathlib.Core.Path.{_≡_, refl, sym, ap, _∙_}
 use mathlib.Core.Bool.{Bool, true, false, cond, _&&_, true≢false}
-use mathlib.Core.List.{List, [], _∷_, _++_, append-assoc}
-use Prim.Native.Nat.{ℕ, _+_, _≤_, _<_}
+use mathlib.Core.List.{List, [], _∷_, _++_}
+use Prim.Native.Nat.{ℕ}
 use native.Mathlib.Omega.{arith}
 use lib.Dec.{eqb}
-use lib.ListN.{length, length-append, take, drop}
+use lib.ListN.{length}
 use borrow.Author.Tests.{eqb-true, eqb-false}
+use Rattle.wire.proofs.Both.{both}
 use Rattle.lines.specs.Lines.{LineSoFar, kept, lineOf}
-use Rattle.lines.specs.Talk.{Way, Talk, talk, lastly}
+use Rattle.lines.specs.Talk.{Way, Talk, talk}
 use Rattle.lines.proofs.Talk.{talk-text, talk-append, last-feed}
 use Rattle.programs.specs.Programs.{longest}
-use Rattle.session.specs.Turns.{answerTo, begun}
-use Rattle.session.specs.declared.Machine.{Machine}
-use Rattle.dialogue.specs.Loop.{Brought, input, theEnd, failed, brings, fed, comes, after, Served, Ran}
-use Rattle.dialogue.specs.declared.Work.{Work}
+use Rattle.answering.specs.Machines.{answerTo, begun}
+use Rattle.answering.specs.declared.Machine.{Machine}
+use Rattle.incoming.specs.Brought.{Brought, input, theEnd, failed, brings, fed}
+use Rattle.saying.specs.Served.{Served}
+use Rattle.saying.specs.declared.Work.{Work}
+use Rattle.dialogue.specs.Loop.{comes, after, Ran}
 
 module _ (a : Way) where
-  -- the text t is written, and u is the next part of what is to come: then t and u are written
-  pub next-part : (t u : List ℕ) (l l′ : LineSoFar) (s s′ i j : List ℕ) → talk longest a u l′ s′ j ≡ talk longest a [] l s i
-      → talk longest a (t ++ u) l′ s′ j ≡ talk longest a t l s i
-  next-part t u l l′ s s′ i j e =
-      let k = talk longest a [] l′ s′ j in
-      talk-text longest a (t ++ u) l′ s′ j
-      ∙ ap (λ (x : List ℕ). record { text = x; line = k .line; state = k .state }) (append-assoc t u (k .text))
-      ∙ ap (λ (x : Talk). record { text = t ++ x .text; line = x .line; state = x .state }) (sym (talk-text longest a u l′ s′ j) ∙ e)
-      ∙ sym (talk-text longest a t l s i)
-
-  -- what is written is the beginning of the whole text
-  pub written-first : (t : List ℕ) (l : LineSoFar) (s i : List ℕ) (k : Talk) → talk longest a t l s i ≡ k → length t ≤ length (k .text)
-  written-first t l s i k e =
-      let f : length (k .text) ≡ length t + length (talk longest a [] l s i .text) = ap (λ (x : Talk). length (x .text)) (sym e ∙ talk-text longest a t l s i) ∙ length-append t (talk longest a [] l s i .text) in
-      omega arith
-
   -- more input goes on with the line and the state that are left, whatever was written
   pub goes-on : (i j : List ℕ) (s s′ : List ℕ) (l : LineSoFar) → l ≡ talk longest a [] (kept []) s i .line → s′ ≡ talk longest a [] (kept []) s i .state
       → (talk longest a [] l s′ j .line ≡ talk longest a [] (kept []) s (i ++ j) .line) × (talk longest a [] l s′ j .state ≡ talk longest a [] (kept []) s (i ++ j) .state)
@@ -43,20 +30,14 @@ module _ (a : Way) where
         rw (el, es) (sym (ap (λ (x : Talk). x .state) e)),
       )
 
--- in the midst of a chunk, at index `at`: the text that the output took so far, `said` bytes, and what is still to come behind it
-pub record SoFar (m : Machine) (k : Talk) (at n said : ℕ) (chunk line state : List ℕ) : Type 0 where
-  pub text : List ℕ
-  pub count : length text ≡ said
-  pub rest : talk longest (answerTo m) text (lineOf longest n line) state (drop at chunk) ≡ k
-
 -- where no line is open, nothing comes of the end
 at-none : (m : Machine) (n : ℕ) (line s : List ℕ) → n ≡ 0
     → talk longest (answerTo m) [] (lineOf longest n line) s []
-    ≡ record { text = lastly (answerTo m) (lineOf longest n line) s .text; line = kept []; state = lastly (answerTo m) (lineOf longest n line) s .state }
+    ≡ comes m theEnd (lineOf longest n line) s
 unfolding talk
 at-none m n line s e =
     ap (λ (x : LineSoFar). record { text = []; line = x; state = s }) (ap (λ (x : ℕ). lineOf longest x line) e)
-    ∙ ap (λ (x : ℕ). record { text = lastly (answerTo m) (lineOf longest x line) s .text; line = kept []; state = lastly (answerTo m) (lineOf longest x line) s .state }) (sym e)
+    ∙ ap (λ (x : ℕ). comes m theEnd (lineOf longest x line) s) (sym e)
 
 -- what comes of what a read brought is what comes of what is answered then
 pub fed-comes : (m : Machine) (n : ℕ) (line s : List ℕ) (b : Brought) → length line ≡ longest
@@ -71,7 +52,7 @@ fed-comes m n line s theEnd h = by (eqb n 0) refl
 
     by : (x : Bool) → eqb n 0 ≡ x
         → talk longest way [] (lineOf longest n line) s (cond x [] (10 ∷ []))
-        ≡ record { text = lastly way (lineOf longest n line) s .text; line = kept []; state = lastly way (lineOf longest n line) s .state }
+        ≡ comes m theEnd (lineOf longest n line) s
     by true e = at-none m n line s (eqb-true n 0 e)
     by false e = last-feed longest way n line s h (eqb-false n 0 e)
 
@@ -98,28 +79,21 @@ pub reached-none : (m : Machine) (line state : List ℕ) → state ≡ begun m �
 unfolding talk
 reached-none m line state e = record { all = []; line-is = refl; state-is = e }
 
+-- what brought no bytes is not read on after
+nothing : (x : Bool) → (x && false) ≡ true → ⊥
+nothing true p = true≢false (sym p)
+nothing false p = true≢false (sym p)
+
 -- a read that brought bytes, all answered
 pub reached-more : (m : Machine) (n : ℕ) (line state line′ state′ : List ℕ) (b : Brought) (w : Work) → Reached m n line state
     → Served (comes m b (lineOf longest n line) state) line′ state′ w → w .on ≡ (w .whole && brings b) → w .on ≡ true
     → Reached m (w .n) line′ state′
 reached-more m n line state line′ state′ (input i) w r s e o =
-    let whole : w .whole ≡ true = first (w .whole) true (sym e ∙ o) in
+    let whole : w .whole ≡ true = both (w .whole) true (sym e ∙ o) .0 in
     let g = goes-on (answerTo m) (r .all) i (begun m) state (lineOf longest n line) (r .line-is) (r .state-is) in
     record { all = r .all ++ i; line-is = s .line-left whole ∙ g .0; state-is = s .state-left whole ∙ g .1 }
-  where
-    first : (x y : Bool) → (x && y) ≡ true → x ≡ true
-    first true y p = refl
-    first false y p = p
-reached-more m n line state line′ state′ theEnd w r s e o = absurd (none (w .whole) (sym e ∙ o))
-  where
-    none : (x : Bool) → (x && false) ≡ true → ⊥
-    none true p = true≢false (sym p)
-    none false p = true≢false (sym p)
-reached-more m n line state line′ state′ failed w r s e o = absurd (none (w .whole) (sym e ∙ o))
-  where
-    none : (x : Bool) → (x && false) ≡ true → ⊥
-    none true p = true≢false (sym p)
-    none false p = true≢false (sym p)
+reached-more m n line state line′ state′ theEnd w r s e o = absurd (nothing (w .whole) (sym e ∙ o))
+reached-more m n line state line′ state′ failed w r s e o = absurd (nothing (w .whole) (sym e ∙ o))
 
 -- the end: nothing more is read, and all is said
 pub ran : (m : Machine) (n : ℕ) (line state line′ state′ : List ℕ) (b : Brought) (w : Work) → Reached m n line state

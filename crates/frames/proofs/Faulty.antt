@@ -1,8 +1,8 @@
 -- Frames that are faulty whatever their kind: one that is too short for every kind, and one of a kind with a channel whose
--- channel byte is of neither side; and the second of two tests that both held.
+-- channel byte is of neither side.
 -- Assumes nothing.
-use mathlib.Core.Path.{_≡_, refl, sym}
-use mathlib.Core.Bool.{Bool, true, false, cond, _&&_, and-false, true≢false}
+use mathlib.Core.Path.{_≡_, refl}
+use mathlib.Core.Bool.{Bool, true, false, cond, and-false}
 use mathlib.Core.List.{List, [], _∷_}
 use Prim.Native.Nat.{ℕ, _<_}
 use native.Mathlib.Omega.{arith}
@@ -25,8 +25,3 @@ either false x = refl
 pub off : (f : List ℕ) → Channelled (byte f 0) → SideOf (byte f 1) Neither → faulty ≡ frameOf f
 unfolding frameOf
 off f k h = simp (ne-eqb _ _ (k .tick), ne-eqb _ _ (k .sample), ne-eqb _ _ (k .analogue), h, either)
-
--- the second of two tests
-pub second : (a b : Bool) → (a && b) ≡ true → b ≡ true
-second true b e = e
-second false b e = absurd (true≢false (sym e))

@@ -1,2 +1,2 @@
--- Proofs about the reader on lent bytes.
-pub mod Receiving
+-- Proofs about the reply to a packet.
+mod Receiving

@@ -1,11 +1,10 @@
--- What the functions' contracts rest on: fresh records one at a time, a move's stores as one call's, and the tests of a call.
+-- What the functions' contracts rest on: a move's stores as one call's, and the tests of a call.
 -- Assumes nothing.
 use mathlib.Core.Path.{_≡_, refl, sym, ap, _∙_}
 use mathlib.Core.Bool.{Bool, true, false, _&&_, _||_}
 use mathlib.Core.List.{List}
 use Prim.Native.Nat.{ℕ, _+_, _-_, _/_, _%_, _≤_, _<_}
 use native.Mathlib.Nat.{mod-lt}
-use native.Mathlib.Numerals.{add-one}
 use native.Mathlib.Omega.{arith}
 use lib.Dec.{eqb}
 use lib.ListN.{length, getD, drop}
@@ -27,17 +26,9 @@ use Rattle.shelf.specs.Layout.{readerMark, placeAt, pieceAt, streams, readerByt
 use Rattle.shelf.specs.View.{lastIn, placeIn, runsIn}
 use Rattle.shelf.specs.Range.{Fit, fit}
 use Rattle.shelf.specs.Received.{recordedOn, gathersOn, understoodOn, receivedOn, understoodTo, handsTo, readOf}
-use Rattle.shelf.specs.Fresh.{freshOn}
 use Rattle.lent.proofs.Fitting.{fitting-true}
 use Rattle.shelf.proofs.Packets.{long-enough}
 use Rattle.shelf.proofs.Formed.{gathersTo, movesTo, arrivesTo, arrived-formed}
-
--- ---- fresh records
-
--- one record more
-pub fresh-more : (s : List ℕ) (t : ℕ) → freshOn s (t + 1) ≡ recordedOn (freshOn s t) t 4095 (pieces t - 1) 0
-unfolding freshOn
-fresh-more s t = rw (add-one t)
 
 -- ---- the stores of a move
 

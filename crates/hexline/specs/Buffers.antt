@@ -4,22 +4,9 @@ use Prim.Native.Nat.{ℕ, _+_, _≤_, _<_}
 use mathlib.Core.Bool.{false, cond}
 use mathlib.Core.Path.{_≡_}
 use mathlib.Core.List.{List}
-use lib.ListN.{take, drop}
-use Rattle.lines.specs.Hex.{Read, bytes, faultyText}
+use lib.ListN.{drop}
 use Rattle.lines.specs.Lines.{lineOf, Scan, lineEnded, partly}
-use Rattle.hexline.specs.declared.Decoded.{Decoded}
-use Rattle.hexline.specs.declared.Decoded.the-variants.{Bytes, Faulty}
 use Rattle.hexline.specs.declared.Gathered.{Gathered}
-
--- what an answer says of the buffer out
-abbrev pub readIn : Decoded → List ℕ → Read
-readIn (Bytes n) out = bytes (take n out)
-readIn Faulty out = faultyText
-
--- how many bytes an answer counts
-abbrev pub byteCount : Decoded → ℕ
-byteCount (Bytes n) = n
-byteCount Faulty = 0
 
 -- what an answer says of the buffer and the chunk
 abbrev pub scanned : (longest : ℕ) → Gathered → List ℕ → List ℕ → Scan

@@ -1,3 +1,2 @@
 -- The definitions that the contracts of this crate are written with, besides document 01's.
 pub mod Window
-pub mod Words

@@ -10,16 +10,12 @@ use lib.ListN.{length, drop, getD, replicate, length-drop, length-replicate, Lis
 use lib.Seq.{getD-drop, ext-getD}
 use borrow.Author.Tests.{leb-true, le-leb, eqb-true, eqb-false, eq-eqb, ne-eqb}
 use Rattle.wire.specs.Wire.{be16, bytes16, put}
+use Rattle.wire.proofs.Both.{both}
 use Rattle.wire.proofs.Runs.{length-put, getD-put-after, be16-put-same}
 use Rattle.lent.specs.Fitting.{markAt, fitting, Fitting, blankOn}
 use Rattle.lent.proofs.Same.{Same, be16-same}
 
 -- ---- the test
-
--- two tests, both true
-pub both : (a b : Bool) → (a && b) ≡ true → (a ≡ true) × (b ≡ true)
-both true b h = (refl, h)
-both false b h = absurd (let z : _≡_ {A = ℕ} 0 1 = cc in omega arith)
 
 neither : (a b : Bool) → b ≡ false → (a && b) ≡ false
 neither true b h = h

@@ -12,7 +12,7 @@ use lib.ListN.{length, getD, replicate, replicate-append-replicate}
 use Rattle.wire.specs.Wire.{be16, bytes16, put}
 use Rattle.wire.proofs.Runs.{length-put, getD-put-before, getD-put-inside, be16-put-inside, be24-put-inside, be16-put-same, be16-bytes16, be24-bytes24}
 use Rattle.impact.specs.Window.{windowOf}
-use Rattle.impact.specs.Words.{wordsOf}
+use Rattle.packing.specs.Words.{wordsOf}
 use Rattle.clock.proofs.Numbers.{number-modeOf, nibble-back}
 use Rattle.paper.specs.Clock.{seconds, now}
 use Rattle.paper.specs.Mode.{modeOf, number, same, proximity, Standing, entered}

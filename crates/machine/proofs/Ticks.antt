@@ -17,8 +17,8 @@ use Rattle.wire.specs.Wire.{be16, be24, bytes16, bytes24, put}
 use Rattle.wire.proofs.Runs.{length-put, getD-put-before, getD-put-inside, be24-put-inside, be16-put-same, be24-bytes24}
 use Rattle.clock.proofs.Numbers.{number-modeOf, nibble-back}
 use Rattle.impact.specs.Window.{windowOf, windowAfter}
-use Rattle.impact.specs.Words.{wordsOf}
-use Rattle.impact.proofs.Packing.{wordsOf-append, wordsOf-put-before, wordsOf-put-after}
+use Rattle.packing.specs.Words.{wordsOf}
+use Rattle.packing.proofs.Packing.{wordsOf-append, wordsOf-put-before, wordsOf-put-after}
 use Rattle.impact.proofs.Window.{windowOf-moved}
 use Rattle.paper.specs.Clock.{secondsOf, ticked, now}
 use Rattle.paper.specs.Mode.{surface, modeOf, nibble}

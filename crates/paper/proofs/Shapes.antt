@@ -1,13 +1,14 @@
 -- What the bytes of a frame say of it, by the rows of the table of frames.
 -- Assumes nothing.
-use mathlib.Core.Path.{_≡_, refl, ap}
+use mathlib.Core.Path.{_≡_, refl}
 use mathlib.Core.Bool.{Bool, true, false, cond, _&&_}
 use mathlib.Core.List.{List}
 use Prim.Native.Nat.{ℕ}
 use native.Mathlib.Omega.{arith}
-use borrow.Author.Tests.{eqb-true, eqb-false}
+use borrow.Author.Tests.{eqb-true}
 use lib.Dec.{eqb, leb}
 use lib.ListN.{length, drop, length-drop}
+use Rattle.wire.proofs.Both.{both}
 use Rattle.paper.specs.Frames.{Channel, cdmuA, cdmuB, Frame, broadcast, command, tick, sample, poll, status, analogue, faulty, byte, kind, onChannel, frameOf}
 
 -- a row: of the frame that it makes, and of what comes where it does not fit
@@ -21,10 +22,6 @@ module _ (P : Frame → Type 0) where
   sided cc made h n =
       either (eqb cc 0x0A) (made cdmuA) (cond (eqb cc 0x0B) (made cdmuB) faulty) (λ e. h cdmuA)
       (either (eqb cc 0x0B) (made cdmuB) faulty (λ e. h cdmuB) n)
-
-second : (a b : Bool) → (a && b) ≡ true → b ≡ true
-second true b e = e
-second false b e = absurd (eqb-false 0 1 refl (ap (λ (c : Bool). cond c 1 0) e))
 
 -- A frame 07 has 58 bytes; and Q holds of a sample's.
 abbrev pub Shaped : (List ℕ → Type 0) → Frame → Type 0
@@ -47,4 +44,4 @@ shaped Q f q =
     (either (Shaped Q) (kind f 5 && eqb (length f) 2) _ _ (λ e. sided (Shaped Q) (byte f 1) _ (λ cc. tt) tt)
     (either (Shaped Q) (kind f 6 && eqb (length f) 4) _ _ (λ e. sided (Shaped Q) (byte f 1) _ (λ cc. tt) tt)
     (either (Shaped Q) (kind f 7 && eqb (length f) 59) _ _
-    (λ e. omega (arith, eqb-true (length f) 59 (second (kind f 7) _ e), length-drop 1 f)) tt))))))
+    (λ e. omega (arith, eqb-true (length f) 59 (both (kind f 7) _ e .1), length-drop 1 f)) tt))))))

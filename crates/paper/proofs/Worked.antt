@@ -16,7 +16,8 @@ use Rattle.paper.specs.Status.{wordA, wordB}
 use Rattle.paper.specs.Acts.{emptied, enter, heard, moved, mRaised, last, completes, withReading, detected, watched, impactPacket, completed, watching, ticks, joinedBy, closed, keptOpen, sampled, noted, cleared, commanded, obeyed, pollOutput, pollAnswered, statusWord, performed, pollAnsweredFrom, pollOutputFrom, accepted, answer}
 use Rattle.paper.specs.Step.{reply, lateHeard, erred, refused, replied, step}
 use Rattle.paper.specs.Reader.{arrive, wellFormed, packetOf, sound, readerStart, received, understood, readerStep}
-use Rattle.paper.specs.Worked.{Worked}
+use Rattle.paper.specs.WorkedLines.{Hears}
+use Rattle.paper.specs.Worked.{readerTables, Worked}
 use Rattle.paper.proofs.Table.{single-rules, carried-rules, samples-few}
 use Rattle.paper.proofs.Shapes.{shaped}
 use Rattle.paper.proofs.Refusals.{in-order, each-once, silent, nothing-else, late-raises, error-raises}
@@ -26,6 +27,10 @@ use Rattle.paper.proofs.Kept.{kept-runs, collects-in-4, runs-write}
 use Rattle.paper.proofs.History.{counted}
 use Rattle.paper.proofs.Examples.{examples-hold, session-holds}
 use Rattle.paper.proofs.Counts.{counts}
+
+reader-hears : Hears readerTables
+unfolding rowOf cut replaced arrive wellFormed packetOf sound readerStart received understood readerStep
+reader-hears = refl
 
 pub worked : Worked
 unfolding onChannel frameOf ticked number modeOf nibble target greater next ruled entered signed above outside decoded rowOf takenIn dataOf datastream cut numbered after replaced without start queued housekeepingData housekeepingPacket wordA wordB emptied enter heard moved mRaised last completes withReading detected watched impactPacket completed watching ticks joinedBy closed keptOpen sampled noted cleared commanded obeyed pollOutput pollAnswered statusWord performed pollAnsweredFrom pollOutputFrom accepted answer reply lateHeard erred refused replied step arrive wellFormed packetOf sound readerStart received understood readerStep
@@ -49,59 +54,5 @@ worked =
     let law = carried-rules in
     let law = samples-few in
     let law = shaped in
-    record {
-      replies-sizes = refl;
-      replies-channels = refl;
-      replies-ids-and-lengths = refl;
-      replies-masks = refl;
-      replies-other-streams = refl;
-      replies-lengths = refl;
-      replies-modes = refl;
-      replies-values = refl;
-      replies-late-broadcasts = refl;
-      replies-rooms = refl;
-      replies-full-queue = refl;
-      replies-changes = refl;
-      modes-descent = refl;
-      modes-heights = refl;
-      modes-one-change = refl;
-      modes-stays-0 = refl;
-      modes-stays-6 = refl;
-      modes-stays-7 = refl;
-      modes-locked-1 = refl;
-      modes-locked-2 = refl;
-      modes-locked-3 = refl;
-      modes-locked-4 = refl;
-      modes-locked-5 = refl;
-      modes-set-mode = refl;
-      modes-four-again = refl;
-      modes-five-again = refl;
-      modes-entries = refl;
-      modes-m-counts = refl;
-      impact-signed = refl;
-      impact-above-or-not = refl;
-      impact-elsewhere = refl;
-      impact-entries-to-4 = refl;
-      impact-abandoned = refl;
-      packets-listed = refl;
-      packets-acc-e-packets = refl;
-      packets-short-of-room = refl;
-      packets-clears = refl;
-      packets-clears-all = refl;
-      housekeeping-from-fresh = refl;
-      housekeeping-after-errors = refl;
-      housekeeping-errors-wrap = refl;
-      status-each-flag = refl;
-      status-own-bits = refl;
-      reader-one-piece = refl;
-      reader-first-counts = refl;
-      reader-refusals = refl;
-      reader-five-pieces = refl;
-      reader-five-wrong = refl;
-      reader-seven-pieces = refl;
-      -- the dearest last
-      packets-interleaved = refl;
-      housekeeping-every-field = refl;
-      impact-unlocked-run = refl;
-      impact-locked-run = refl;
-    }
+    let tables = reader-hears in
+    record { replies-changes = refl; impact-signed = refl; packets-listed = refl; controller = refl; reader = tables }

@@ -135,9 +135,19 @@ asController c f room = let o : Outcome = step c f room in (o .reply, o .out, o 
 abbrev pub asReader : Reader → List ℕ → ℕ → ℕ × List ℕ × Reader
 asReader r f room = let h : ReaderOutcome = readerStep r f room in (h .reply, h .out, h .next)
 
--- a fresh controller, and a fresh reader, answer every line as the table says
-abbrev pub Answers : List Line → Type 0
-Answers ls = otherwise asController start 1 ls ≡ []
+-- Of a machine that starts afresh for each of some tables, given with their names: the first table that it answers otherwise than it
+-- says, by its name and the numbers of those lines. What comes after that is not played, so that a wrong definition is found soon.
+abbrev pub orLater : String → List ℕ → List (String × List ℕ) → List (String × List ℕ)
+orLater name [] later = later
+orLater name (n ∷ ns) later = (name, n ∷ ns) ∷ []
 
-abbrev pub Hears : List Line → Type 0
-Hears ls = otherwise asReader readerStart 1 ls ≡ []
+abbrev pub firstWrong : {M : Type 0} → (M → List ℕ → ℕ → ℕ × List ℕ × M) → M → List (String × List Line) → List (String × List ℕ)
+firstWrong answer m [] = []
+firstWrong answer m (t ∷ ts) = orLater (t .0) (otherwise answer m 1 (t .1)) (firstWrong answer m ts)
+
+-- a fresh controller, and a fresh reader, answer every line of every table as it says
+abbrev pub Answers : List (String × List Line) → Type 0
+Answers ts = firstWrong asController start ts ≡ []
+
+abbrev pub Hears : List (String × List Line) → Type 0
+Hears ts = firstWrong asReader readerStart ts ≡ []

@@ -3,3 +3,4 @@ pub mod Bench
 pub mod Says
 pub mod Cut
 pub mod Output
+mod Worked

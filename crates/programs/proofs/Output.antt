@@ -10,9 +10,9 @@ use lib.Dec.{eqb}
 use lib.ListN.{length, take, drop}
 use lib.Seq.{take-at}
 use borrow.Author.Tests.{eqb-true}
-use Rattle.wire.specs.Wire.{put, part}
+use Rattle.wire.specs.Wire.{put}
 use Rattle.wire.proofs.Runs.{length-part}
-use Rattle.paper.specs.Frames.{Frame, frameOf}
+use Rattle.paper.specs.Frames.{frameOf}
 use Rattle.paper.specs.Acts.{answer}
 use Rattle.paper.specs.Step.{holds, reply}
 use Rattle.paper.specs.Reader.{ReaderOutcome, readerStep}

@@ -1,3 +1,2 @@
--- The reply to a sample by what stands in the lent bytes, and what storing one leaves there.
--- Assumes nothing.
-pub mod SampleReply
+-- The reply to a sample by what stands in the lent bytes.
+mod SampleReply

@@ -1,28 +1,15 @@
--- What comes of a chunk of input: what was to come where a turn began is what is to come where it stopped. One set of words for both
--- programs; which machine answers is a value.
+-- What comes of a chunk of input: what was to come where a turn began is what is to come where it stopped.
 -- Assumes nothing.
 use mathlib.Core.Path.{_≡_}
 use Prim.Native.Nat.{ℕ, _+_, _*_, _≤_, _<_}
 use mathlib.Core.List.{List}
 use lib.ListN.{length, take, drop}
 use Rattle.lines.specs.Lines.{lineOf}
-use Rattle.lines.specs.Talk.{Way, Talk, talk}
-use Rattle.programs.specs.Bench as Bench
-use Rattle.programs.specs.Reader as Reader
+use Rattle.lines.specs.Talk.{Talk, talk}
 use Rattle.programs.specs.Programs.{longest}
+use Rattle.answering.specs.Machines.{answerTo, mostText}
+use Rattle.answering.specs.declared.Machine.{Machine}
 use Rattle.session.specs.declared.Turn.{Turn}
-use Rattle.session.specs.declared.Machine.{Machine}
-use Rattle.session.specs.declared.Machine.the-variants.{Controller, Reader}
-
--- what a machine says to a frame, as text, and the state that it leaves
-abbrev pub answerTo : Machine → Way
-answerTo Controller = Bench.answerTo
-answerTo Reader = Reader.answerTo
-
--- the state that its program begins with
-abbrev pub begun : Machine → List ℕ
-begun Controller = Bench.begun
-begun Reader = Reader.begun
 
 -- the buffers that a line of n characters needs: one for its characters, and one for its frame, both as long as the longest line asks
 pub record Buffers (n : ℕ) (line frame : List ℕ) : Type 0 where
@@ -40,10 +27,6 @@ toCome m at n used chunk line state out =
 abbrev pub GoesOn : Machine → (from n used : ℕ) → Turn → (chunk line state out line′ state′ out′ : List ℕ) → Type 0
 GoesOn m from n used r chunk line state out line′ state′ out′ =
     toCome m (r .at) (r .n) (r .used) chunk line′ state′ out′ ≡ toCome m from n used chunk line state out
-
--- the longest line is the reader's: two digits, a space, 776 bytes and an LF
-abbrev pub mostText : ℕ
-mostText = 1556
 
 -- where a turn stopped that began at `from` of a chunk of that length, with `used` bytes of a buffer of `room` in use
 pub record Within (from size used room : ℕ) (r : Turn) : Type 0 where

@@ -24,7 +24,7 @@ use Rattle.shelf.specs.Layout.{recordAt, placeAt, gatherAt, pieceAt}
 use Rattle.shelf.specs.View.{lastIn, placeIn, runsIn, trackIn, readerIn}
 use Rattle.shelf.specs.Range.{Fit}
 use Rattle.shelf.specs.Received.{recordOf, recordedOn, gathersOn, movesOn, arrivesOn, arrivedOn, understoodOn, toldOf, understoodTo, handsTo}
-use Rattle.lent.proofs.Fitting.{both}
+use Rattle.wire.proofs.Both.{both}
 use Rattle.shelf.proofs.Gathered.{piece-snoc, Elsewhere, body-elsewhere, follows}
 
 -- ---- by the bytes

@@ -11,7 +11,7 @@ use borrow.Author.Tests.{eqb-true}
 use Rattle.wire.specs.Wire.{be16}
 use Rattle.paper.specs.Streams.{carried}
 use Rattle.paper.specs.Reader.{Packet, packet, notCarried, noPacket, wellFormed, packetOf}
-use Rattle.lent.proofs.Fitting.{both}
+use Rattle.wire.proofs.Both.{both}
 
 abbrev pub Shaped : (ℕ → Type 0) → Packet → Type 0
 Shaped P (packet t count x) = (carried t ≡ true) × P count × (length x ≡ 118)

@@ -22,7 +22,8 @@ use Rattle.shelf.specs.Range.{Fit}
 use Rattle.shelf.specs.Received.{recordedOn, gathersOn, movesOn, arrivesOn, arrivedOn, understoodOn, receivedOn, readOf}
 use Rattle.shelf.specs.Runs.{Left, Agrees}
 use Rattle.lent.specs.Fitting.{markAt}
-use Rattle.lent.proofs.Fitting.{both, true-fitting}
+use Rattle.wire.proofs.Both.{both}
+use Rattle.lent.proofs.Fitting.{true-fitting}
 use Rattle.shelf.proofs.Packets.{Shaped, shaped}
 use Rattle.shelf.proofs.Gathered.{piece-snoc, Elsewhere, elsewhere-trans, record-elsewhere, body-elsewhere, record-track, track-same, follows}
 

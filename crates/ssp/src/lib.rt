@@ -27,7 +27,7 @@ pub extern "C" fn ssp_frame(state: &mut [u8], frame: &[u8], out: &mut [u8]) -> u
 pub extern "C" fn ssp_reader_start(state: &mut [u8]) -> u8
     ensures { λ r. ⌜ told r (now (state .exit)) ≡ Reader.startOf (now (state .entry)) ⌝ }
 {
-    gather::start(state)
+    shelving::start(state)
 }
 
 // Hands a packet to the reader in state: the reply, with a finished datastream packet at the front of out.

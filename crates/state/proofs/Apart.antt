@@ -15,7 +15,7 @@ use borrow.Author.Tests.{ltb-true, lt-ltb, le-ltb}
 use Rattle.wire.specs.Wire.{be16, part, put}
 use Rattle.wire.proofs.Runs.{length-put}
 use Rattle.impact.specs.Window.{windowOf}
-use Rattle.impact.proofs.Packing.{wordsOf-same}
+use Rattle.packing.proofs.Packing.{wordsOf-same}
 use Rattle.paper.specs.Frames.{cdmuA, cdmuB}
 use Rattle.paper.specs.Mode.{modeOf}
 use Rattle.paper.specs.Streams.{perPacket, width, form}

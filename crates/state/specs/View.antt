@@ -8,7 +8,7 @@ use lib.Dec.{eqb, leb, ltb}
 use lib.ListN.{getD, drop}
 use Rattle.wire.specs.Wire.{be16, be24, bytes16, part}
 use Rattle.impact.specs.Window.{windowOf}
-use Rattle.impact.specs.Words.{wordsOf}
+use Rattle.packing.specs.Words.{wordsOf}
 use Rattle.paper.specs.Frames.{Channel, cdmuA, cdmuB}
 use Rattle.paper.specs.Clock.{Clock}
 use Rattle.paper.specs.Mode.{modeOf, Standing}

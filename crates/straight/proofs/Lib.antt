@@ -1,2 +1,2 @@
--- Laws of digits read straight from a chunk.
-pub mod Runs
+-- Laws of a line that ends in its chunk.
+mod Ends

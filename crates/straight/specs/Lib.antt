@@ -1,2 +1,2 @@
--- What is read straight from a chunk.
-pub mod Reading
+-- What is found of a line.
+pub mod Found

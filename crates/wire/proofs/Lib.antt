@@ -1,2 +1,3 @@
 -- The laws of this crate that no function is named for.
 pub mod Runs
+pub mod Both

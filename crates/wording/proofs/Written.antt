@@ -5,7 +5,7 @@ use Prim.Native.Nat.{ℕ, _+_, _/_, _%_, _<_}
 use native.Mathlib.Omega.{arith}
 use lib.ListN.{length, take, set}
 use Rattle.lines.specs.Hex.{hexOf, digitOf, decimalOf}
-use Rattle.hexline.proofs.HexLines.{stored, stored-two}
+use Rattle.hexdigits.proofs.HexDigits.{stored, stored-two}
 use Rattle.programs.specs.Bench.{bytesWritten}
 use Rattle.programs.specs.Reader.{spaced, lineFor}
 

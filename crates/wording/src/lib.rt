@@ -33,9 +33,9 @@ pub fn put_line(reply: u8, bytes: &[u8], out: &mut [u8], used: usize) -> usize
     ensures { λ r. ⌜ r ≡ used + 2 * length (now (bytes .entry)) + 3 ⌝ }
     ensures { λ r. ⌜ take r (now (out .exit)) ≡ take used (now (out .entry)) ++ (hexOf (reply ∷ now (bytes .entry)) ++ (10 ∷ [])) ⌝ }
 {
-    out[used] = hexline::digit(reply / 16);
-    out[used + 1] = hexline::digit(reply % 16);
-    let n = hexline::encode(bytes, out, used + 2);
+    out[used] = hexdigits::digit(reply / 16);
+    out[used + 1] = hexdigits::digit(reply % 16);
+    let n = hexdigits::encode(bytes, out, used + 2);
     out[n] = 10;
     n + 1
 }
@@ -63,7 +63,7 @@ fn put_spaced(bytes: &[u8], out: &mut [u8], at: usize) -> usize
         return at;
     }
     out[at] = 32;
-    hexline::encode(bytes, out, at + 1)
+    hexdigits::encode(bytes, out, at + 1)
 }
 
 // Appends the line of the reader's reply and the bytes that are handed out.
@@ -72,7 +72,7 @@ pub fn put_heard(reply: u8, bytes: &[u8], out: &mut [u8], used: usize) -> usize
     ensures { λ r. ⌜ r ≤ used + 2 * length (now (bytes .entry)) + 4 ⌝ }
     ensures { λ r. ⌜ take r (now (out .exit)) ≡ take used (now (out .entry)) ++ Reader.lineFor reply (now (bytes .entry)) ⌝ }
 {
-    let at = hexline::decimal(reply, out, used);
+    let at = hexdigits::decimal(reply, out, used);
     let n = put_spaced(bytes, out, at);
     out[n] = 10;
     n + 1

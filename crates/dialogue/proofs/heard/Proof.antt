@@ -13,9 +13,10 @@ use mir.ValLaws.{toZ-ofZ}
 use Rattle.lines.specs.Lines.{lineOf}
 use Rattle.lines.specs.Talk.{talk}
 use Rattle.programs.specs.Programs.{longest}
-use Rattle.session.specs.Turns.{answerTo}
-use Rattle.dialogue.specs.Loop.{brought, fed, comes}
-use Rattle.dialogue.proofs.Arriving.{brings-more}
+use Rattle.answering.specs.Machines.{answerTo}
+use Rattle.incoming.specs.Brought.{brought, fed}
+use Rattle.incoming.proofs.Arriving.{brings-more}
+use Rattle.dialogue.specs.Loop.{comes}
 use Rattle.dialogue.proofs.Talking.{fed-comes, served-as}
 use borrow.Author.Needs.{needs}
 use Rattle.dialogue.proofs.heard.Statement.{statement}

@@ -1,15 +1,14 @@
 -- `dialogue::run` meets its contract. The invariant: the line open and the state are those that the reads so far leave. The measure is the
 -- number of turns left. Assumes nothing.
 use Prim.Native.Nat.{ℕ, _≤_, _+_, _*_}
-use mathlib.Core.Path.{_≡_, refl, sym, ap, _∙_}
+use mathlib.Core.Path.{_≡_, refl, ap, _∙_}
 use native.Mathlib.Omega.{arith}
 use lib.ListN.{length}
 use mir.Syntax.{w64}
 use mir.Val.{toZ, ofZ}
-use borrow.Author.Needs.{needs}
 use borrow.Author.Tests.{not-true, not-false}
 use Rattle.programs.specs.Programs.{longest}
-use Rattle.dialogue.specs.Loop.{brought}
+use Rattle.incoming.specs.Brought.{brought}
 use Rattle.dialogue.proofs.Talking.{Reached, reached-none, reached-more, ran, ran-out}
 use Rattle.dialogue.proofs.run.Statement.{statement}
 use Rattle.dialogue.proofs.run.Tie as tie

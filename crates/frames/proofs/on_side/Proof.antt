@@ -4,20 +4,20 @@ use mathlib.Core.Path.{_∙_}
 use lib.Dec.{eqb}
 use borrow.Author.Tests.{ne-eqb, eqb-true, leb-true}
 use Rattle.paper.specs.Frames.{frameOf}
-use Rattle.frames.proofs.Faulty.{second}
+use Rattle.wire.proofs.Both.{both}
 use Rattle.frames.proofs.on_side.Statement.{statement}
 use Rattle.frames.proofs.on_side.Tie as tie
 
 returns : tie.Need-returns
 unfolding frameOf
 returns c f k l on =
-    (rw (k, l, c .if1 .taken, on), l ∙ eqb-true _ _ (second (eqb (c .before .args .kind) 1) _ (c .if1 .taken)))
+    (rw (k, l, c .if1 .taken, on), l ∙ eqb-true _ _ (both (eqb (c .before .args .kind) 1) _ (c .if1 .taken) .1))
 
 returns-2 : tie.Need-returns-2
 unfolding frameOf
 returns-2 c f k l on = (
   rw (k, l, c .before .if1 .left, c .if2 .taken, on),
-  rw l (leb-true _ _ (second (eqb (c .before .before .args .kind) 2) _ (c .if2 .taken))),
+  rw l (leb-true _ _ (both (eqb (c .before .before .args .kind) 2) _ (c .if2 .taken) .1)),
 )
 
 returns-3 : tie.Need-returns-3
@@ -33,7 +33,7 @@ returns-3 c f k l on = (
     c .if3 .taken,
     on,
   ),
-  l ∙ eqb-true _ _ (second (eqb (c .before .before .before .args .kind) 5) _ (c .if3 .taken)),
+  l ∙ eqb-true _ _ (both (eqb (c .before .before .before .args .kind) 5) _ (c .if3 .taken) .1),
 )
 
 returns-4 : tie.Need-returns-4
@@ -50,7 +50,7 @@ returns-4 c f k l on = (
     c .if4 .taken,
     on,
   ),
-  l ∙ eqb-true _ _ (second (eqb (c .before .before .before .before .args .kind) 6) _ (c .if4 .taken)),
+  l ∙ eqb-true _ _ (both (eqb (c .before .before .before .before .args .kind) 6) _ (c .if4 .taken) .1),
 )
 
 returns-5 : tie.Need-returns-5

@@ -5,8 +5,8 @@ use native.Mathlib.Omega.{arith}
 use lib.ListN.{length, take}
 use lib.Seq.{length-take-le}
 use Rattle.hexline.proofs.HexLines.{frame-bytes, frame-faulty, frame-over}
-use Rattle.hexline.specs.declared.Decoded.{Decoded}
-use Rattle.hexline.specs.Buffers.{readIn, byteCount}
+use Rattle.hexdigits.specs.declared.Decoded.{Decoded}
+use Rattle.hexdigits.specs.Decodes.{readIn, byteCount}
 use borrow.Author.Needs.{needs}
 use Rattle.hexline.proofs.frame_of.Statement.{statement}
 use Rattle.hexline.proofs.frame_of.Tie as tie

@@ -5,7 +5,8 @@ use mathlib.Core.Path.{_≡_, refl, _∙_}
 use native.Mathlib.Omega.{arith}
 use lib.ListN.{length}
 use Rattle.programs.specs.Programs.{longest}
-use Rattle.session.specs.Turns.{mostText, toCome}
+use Rattle.answering.specs.Machines.{mostText}
+use Rattle.session.specs.Turns.{toCome}
 use Rattle.session.proofs.fill.Statement.{statement}
 use Rattle.session.proofs.fill.Tie as tie
 

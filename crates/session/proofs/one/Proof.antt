@@ -7,9 +7,9 @@ use lib.ListN.{take, drop, drop-of-length-le}
 use lib.Seq.{length-take-le}
 use Rattle.lines.specs.Lines.{lineOf}
 use Rattle.lines.proofs.Talk.{turn-ended, turn-partly}
-use Rattle.straight.specs.Reading.{Ended, StillOpen}
+use Rattle.straight.specs.Found.{Ended, StillOpen}
 use Rattle.programs.specs.Programs.{longest}
-use Rattle.session.specs.Turns.{answerTo}
+use Rattle.answering.specs.Machines.{answerTo}
 use borrow.Author.Tests.{not-true, not-false}
 use borrow.Author.Needs.{needs}
 use Rattle.session.proofs.one.Statement.{statement}

@@ -4,7 +4,7 @@ use mathlib.Core.Path.{_≡_, refl, sym, ap, _∙_}
 use native.Mathlib.Omega.{arith}
 use lib.ListN.{length, take, drop}
 use Rattle.lines.specs.Lines.{LineSoFar, kept, scan, bytesOr}
-use Rattle.straight.proofs.Runs.{reading-ended, open-none}
+use Rattle.straight.proofs.Ends.{reading-ended, open-none}
 use borrow.Author.Needs.{needs}
 use Rattle.straight.proofs.next.Statement.{statement}
 use Rattle.straight.proofs.next.Tie as tie

@@ -1,0 +1,2 @@
+-- What a call of the reader replies.
+mod Replied

@@ -1,0 +1,2 @@
+-- Which machine answers.
+pub mod Machines

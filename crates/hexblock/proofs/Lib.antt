@@ -1,0 +1,2 @@
+-- Laws of a block.
+mod Blocks

@@ -1,0 +1,2 @@
+-- The values of characters.
+pub mod Valued

@@ -1,0 +1,2 @@
+-- Laws of digits and bytes.
+pub mod HexDigits

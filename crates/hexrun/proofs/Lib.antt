@@ -1,0 +1,2 @@
+-- Laws of digits read straight from a chunk.
+pub mod Runs

@@ -1,0 +1,2 @@
+-- What is read straight from a chunk.
+pub mod Reading

@@ -1,0 +1,2 @@
+-- What a read brings.
+pub mod Brought

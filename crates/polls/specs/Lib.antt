@@ -1,0 +1,2 @@
+-- Demand 3's packets: those polled.
+pub mod Polls

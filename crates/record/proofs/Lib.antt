@@ -1,0 +1,2 @@
+-- The ring.
+mod Ring

@@ -1,0 +1,2 @@
+-- Laws of text that is written part by part.
+mod Parts

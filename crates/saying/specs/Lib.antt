@@ -1,0 +1,2 @@
+-- What is to come of a chunk, done.
+pub mod Served

@@ -1,2 +1,0 @@
--- What a call of the reader replies.
-pub mod Replied

@@ -1,0 +1,2 @@
+-- Fresh records.
+mod Records

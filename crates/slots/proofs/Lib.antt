@@ -1,2 +1,0 @@
--- One turn of each loop.
-pub mod Steps
