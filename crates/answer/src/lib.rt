@@ -1,4 +1,6 @@
 // Frames 05 and 06, which are answered in the output: a poll by a packet, a status frame by a status word.
+#![tactic(auto)]
+
 ghost use Rattle.std.specs.Prelude.{◌≡◌, ◌<◌, ◌≤◌, length};
 ghost use Rattle.wire.specs.Wire.{put};
 ghost use Rattle.paper.specs.Frames as Frames;

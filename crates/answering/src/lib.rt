@@ -1,5 +1,7 @@
 // A frame or packet answered, as a line of text. Which of the two machines answers is a value that is handed through, and `answer` alone
 // looks at it.
+#![tactic(auto)]
+
 ghost use Rattle.std.specs.Prelude.{◌≡◌, ◌++◌, ◌+◌, ◌≤◌, length, take};
 ghost use Rattle.programs.specs.Bench as Bench;
 ghost use Rattle.programs.specs.Reader as Reader;

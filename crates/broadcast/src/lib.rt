@@ -1,4 +1,6 @@
 // Frame 01, a broadcast: refused where it is late, else heard, and the mode rule applied.
+#![tactic(auto)]
+
 ghost use Rattle.std.specs.Prelude.{◌≡◌, ◌<◌, length};
 ghost use Rattle.wire.specs.Wire.{be16};
 ghost use Rattle.paper.specs.Frames.{byte};

@@ -1,5 +1,7 @@
 // Seconds, SSP time and the mode as numbers: what "Time and mode" of document 01 computes, by value.
 // The mode rule takes numbers and not a record, since its callers keep their state as bytes.
+#![tactic(auto)]
+
 ghost use Rattle.std.specs.Prelude.{◌≡◌, ◌%◌, ◌<◌, ◌≤◌, leb};
 ghost use Rattle.paper.specs.Clock as Clock;
 ghost use Rattle.paper.specs.Mode as Mode;

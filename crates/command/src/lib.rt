@@ -1,5 +1,7 @@
 // What a command says: a request with its fields, or the number that refuses it.
 // The values are decided here once, so whoever acts on a request finds fields that are in range.
+#![tactic(auto)]
+
 ghost use Rattle.std.specs.Prelude.{◌≡◌};
 ghost use Rattle.paper.specs.Commands as Commands;
 ghost use Rattle.command.specs.Meaning.{meant, Decodes};

@@ -1,4 +1,6 @@
 // Programs bench and reader: a fresh machine, and the loop that serves standard input to its end.
+#![tactic(auto)]
+
 ghost use Rattle.std.specs.Prelude.{◌≡◌};
 ghost use Rattle.answering.specs.Machines.{begun};
 

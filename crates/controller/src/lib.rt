@@ -1,4 +1,6 @@
 // The reference controller on lent bytes: start, and one frame.
+#![tactic(auto)]
+
 ghost use Rattle.std.specs.Prelude.{◌≡◌, ◌≤◌, length};
 ghost use Rattle.wire.specs.Wire.{part, put};
 ghost use Rattle.frames.specs.Meaning.{meant, Sized};

@@ -1,1 +1,2 @@
 // The three demands about calls on lent bytes, in specs/, and their proofs. No code.
+#![tactic(auto)]

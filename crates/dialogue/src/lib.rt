@@ -2,6 +2,8 @@
 // are written, before the next read, so that whoever types a line, or sends one through a pipe, has its answer.
 //
 // What a read brings is taken as any bytes.
+#![tactic(auto)]
+
 ghost use Rattle.std.specs.Prelude.{◌≡◌, true, ◌&&◌, ◌≤◌, length};
 ghost use Rattle.lines.specs.Lines.{line_of};
 ghost use Rattle.programs.specs.Programs.{longest};

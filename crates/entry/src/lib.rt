@@ -1,4 +1,6 @@
 // Entries to a mode.
+#![tactic(auto)]
+
 ghost use Rattle.std.specs.Prelude.{◌≡◌};
 ghost use Rattle.wire.specs.Wire.{put};
 ghost use Rattle.state.specs.Layout.{nibble_at};

@@ -1,4 +1,6 @@
 // Frames: which kind a frame's bytes are of.
+#![tactic(auto)]
+
 ghost use Rattle.std.specs.Prelude.{◌≡◌};
 ghost use Rattle.paper.specs.Frames.{frame_of};
 ghost use Rattle.frames.specs.Meaning.{meant, Sized, SideOf, Channelled, OnSide};

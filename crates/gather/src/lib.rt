@@ -1,4 +1,6 @@
 // The reader's reply to a packet.
+#![tactic(auto)]
+
 ghost use Rattle.std.specs.Prelude.{◌≡◌, true, ◌<◌, ◌≤◌, length, drop};
 ghost use Rattle.paper.specs.Streams as Streams;
 ghost use Rattle.paper.specs.Reader as Reader;

@@ -1,4 +1,6 @@
 // A block of 32 digits, read at once: loops that no step leaves early have vector instructions.
+#![tactic(auto)]
+
 ghost use Rattle.std.specs.Prelude.{true, ◌≡◌, ◌≤◌, length};
 ghost use Rattle.lines.specs.Hex.{bytes, read_hex};
 ghost use Rattle.hexblock.specs.Valued.{Valued};

@@ -1,4 +1,6 @@
 // Digits and bytes: a text of hexadecimal read as bytes, and bytes and small numbers written as text.
+#![tactic(auto)]
+
 ghost use Rattle.std.specs.Prelude.{◌≡◌, ◌++◌, ◌+◌, ◌*◌, ◌≤◌, ◌<◌, length, take};
 ghost use Rattle.lines.specs.Hex.{value_of, read_hex, digit_of, hex_of, decimal_of};
 ghost use Rattle.hexdigits.specs.Decodes.{read_in, byte_count};

@@ -1,6 +1,8 @@
 // Lines of hexadecimal: a line is gathered from chunks of input, and read as the frame that it stands for.
 //
 // A line is kept in a buffer that is as long as the longest line that counts. One that has more characters is kept as a count of one more.
+#![tactic(auto)]
+
 ghost use Rattle.std.specs.Prelude.{◌≡◌, List, ℕ, ◌+◌, ◌*◌, ◌≤◌, ◌<◌, length, take, drop};
 ghost use Rattle.lines.specs.Lines.{line_of, scan, frame_of_line};
 ghost use Rattle.hexline.specs.Buffers.{scanned, Stopped};

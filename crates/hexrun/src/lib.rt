@@ -1,4 +1,6 @@
 // A run of digits, read where it stands in a chunk. A long one is read in blocks, and only its first eight pairs and its end pair by pair.
+#![tactic(auto)]
+
 ghost use Rattle.std.specs.Prelude.{◌+◌, ◌≤◌, length};
 ghost use Rattle.hexrun.specs.Reading.{Reading};
 

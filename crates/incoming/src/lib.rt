@@ -1,4 +1,6 @@
 // What a read brings: its bytes, or the end of the input, where a line still open is answered as if an LF came.
+#![tactic(auto)]
+
 ghost use Rattle.std.specs.Prelude.{◌≡◌, ◌≤◌, length, take};
 ghost use Rattle.incoming.specs.Brought.{brought, fed};
 

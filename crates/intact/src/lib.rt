@@ -1,4 +1,6 @@
 // What the reader asks of bytes before it believes them: a packet that is well-formed, and a whole datastream packet that is sound.
+#![tactic(auto)]
+
 ghost use Rattle.std.specs.Prelude.{◌≡◌, true, ◌*◌, ◌-◌, ◌≤◌, length};
 ghost use Rattle.wire.specs.Wire.{part};
 ghost use Rattle.paper.specs.Streams as Streams;

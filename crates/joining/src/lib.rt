@@ -1,4 +1,6 @@
 // A packet's pieces join the queue.
+#![tactic(auto)]
+
 ghost use Rattle.std.specs.Prelude.{◌≡◌, ◌+◌, ◌*◌, ◌<◌, ◌≤◌, length};
 ghost use Rattle.paper.specs.Streams as Streams;
 ghost use Rattle.state.specs.View.{waiting_in};

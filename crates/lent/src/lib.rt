@@ -1,5 +1,7 @@
 // What the two machines on lent bytes, the controller's and the reader's, have in common: the mark in front, and bytes that are fresh
 // but for it.
+#![tactic(auto)]
+
 ghost use Rattle.std.specs.Prelude.{◌≡◌, ◌≤◌, length};
 ghost use Rattle.lent.specs.Fitting.{fitting, blank_on};
 

@@ -1,4 +1,6 @@
 // What a command does: it is counted, accepted or refused, and obeyed.
+#![tactic(auto)]
+
 ghost use Rattle.std.specs.Prelude.{◌≡◌, ℕ, ◌<◌, true};
 ghost use Rattle.paper.specs.Commands as Commands;
 ghost use Rattle.paper.specs.Streams.{hk};

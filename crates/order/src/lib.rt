@@ -1,4 +1,6 @@
 // Frame 02, a command: decoded to a request with its fields or a refusal, and obeyed.
+#![tactic(auto)]
+
 ghost use Rattle.std.specs.Prelude.{◌≡◌, ℕ, ◌<◌, ◌≤◌, length, drop};
 ghost use Rattle.wire.specs.Wire.{be16};
 ghost use Rattle.paper.specs.Commands as Commands;

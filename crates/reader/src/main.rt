@@ -5,6 +5,8 @@
 // no digits; a wrong ID, wrong top sequence bits and a wrong length; a stream that is not carried; a DEN packet whose last fill byte
 // is wrong, the right one then a repeat, and the next one whole, in small letters; an impact record of seven pieces, its last line
 // without an LF.
+#![tactic(auto)]
+
 fn main() {
     if console::explained(
         b"usage: reader <PACKETS\nreader takes no arguments: it reads packets from standard input, a line each in hexadecimal.\n",

@@ -2,6 +2,8 @@
 //
 // What a write did is a count of bytes, no more: so `answer_all` promises how many bytes of text the output took, and `session::fill`
 // which they are.
+#![tactic(auto)]
+
 ghost use Rattle.std.specs.Prelude.{◌≡◌, [], ◌≤◌, length};
 ghost use Rattle.lines.specs.Lines.{line_of};
 ghost use Rattle.lines.specs.Talk.{talk};

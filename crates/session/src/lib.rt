@@ -1,5 +1,7 @@
 // The library of programs bench and reader, on slices alone: chunks of input go in, and the text of the answers comes out. One
 // loop serves both.
+#![tactic(auto)]
+
 ghost use Rattle.std.specs.Prelude.{◌+◌, ◌≤◌, length};
 ghost use Rattle.answering.specs.Machines.{most_text};
 ghost use Rattle.session.specs.Turns.{Buffers, GoesOn, Within};

@@ -1,5 +1,7 @@
 // The reader's lent bytes: the mark that they begin with, and where a stream's record and its gathered pieces stand. docs/STATE.md
 // lists the same.
+#![tactic(auto)]
+
 ghost use Rattle.std.specs.Prelude.{◌≡◌, ◌+◌, ◌<◌, ◌≤◌};
 ghost use Rattle.shelf.specs.Layout.{record_at, gather_at, reader_bytes};
 

@@ -1,4 +1,6 @@
 // The reader's lent bytes: a start, a stream's record, a piece at its place, and a whole packet handed out.
+#![tactic(auto)]
+
 ghost use Rattle.std.specs.Prelude.{◌≡◌, true, ◌+◌, ◌*◌, ◌-◌, ◌<◌, ◌≤◌, length, drop};
 ghost use Rattle.wire.specs.Wire.{put};
 ghost use Rattle.paper.specs.Streams as Streams;

@@ -1,4 +1,6 @@
 // The C entries. Each hands its arguments on; a slice is a pointer and a length.
+#![tactic(auto)]
+
 ghost use Rattle.std.specs.Prelude.{◌≡◌};
 ghost use Rattle.lent.specs.Told.{told, res};
 ghost use Rattle.machine.specs.Called as Controller;

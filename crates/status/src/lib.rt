@@ -1,5 +1,7 @@
 // The status words, each built by value from an empty one, a named bit at a time, in ascending order.
 // A and B have a type each, so that no name of the one's bits sets a bit of the other.
+#![tactic(auto)]
+
 ghost use Rattle.std.specs.Prelude.{◌≡◌, ◌<◌, ◌≤◌};
 ghost use Rattle.paper.specs.Mode.{Mode, number};
 ghost use Rattle.paper.specs.Status.{bit, bit_of, empty_with, flags_of, word_a, word_b};

@@ -1,5 +1,7 @@
 // The next line of a chunk, and its frame. A line that stands whole in the chunk is read where it stands, without a copy of its
 // characters; one that a read cut is gathered.
+#![tactic(auto)]
+
 ghost use Rattle.std.specs.Prelude.{true, ◌≡◌, ◌≤◌, length};
 ghost use Rattle.straight.specs.Found.{WholeLine, Buffers, Found, FoundIn};
 

@@ -1,5 +1,7 @@
 // One stream's record at the reader: its last count, its place and whether a gathering runs, and how an arriving piece moves it.
 // The pieces themselves are kept elsewhere: what happens to them is told by a move, whose meaning is in specs/Moves.antt.
+#![tactic(auto)]
+
 ghost use Rattle.std.specs.Prelude.{◌≡◌, ◌<◌};
 ghost use Rattle.paper.specs.Reader as paper;
 ghost use Rattle.track.specs.Moves.{InRange, Right};

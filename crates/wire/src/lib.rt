@@ -1,5 +1,7 @@
 // Numbers and runs of bytes at an offset of a slice.
 // Every store is said as `put`: the run is there, and the rest is as it was.
+#![tactic(auto)]
+
 ghost use Rattle.std.specs.Prelude.{◌≡◌, ◌+◌, ◌/◌, ◌%◌, ◌<◌, ◌≤◌, [], ◌∷◌, length, replicate};
 ghost use Rattle.wire.specs.Wire.{be16, be24, bytes16, bytes24, part, put, raised_on};
 

@@ -1,4 +1,6 @@
 // The text of an answer: how many bytes go with a reply, and the line of a reply and its bytes.
+#![tactic(auto)]
+
 ghost use Rattle.std.specs.Prelude.{◌≡◌, [], ◌∷◌, ◌++◌, ◌+◌, ◌*◌, ◌≤◌, ◌<◌, length, take};
 ghost use Rattle.lines.specs.Hex.{hex_of};
 ghost use Rattle.programs.specs.Bench as Bench;
