@@ -1,10 +1,10 @@
 -- Laws of a run of bytes that is stored at an offset: what is read of it, and that the rest is as it was.
 -- They are stated once over the offset and the length; those of numbers follow from those of bytes. Assumes nothing.
-use Rattle.std.proofs.Common.{◌≡◌, ℕ, suc, ◌+◌, ◌-◌, ◌*◌, ◌/◌, ◌%◌, ◌<◌, ◌≤◌, List, [], ◌∷◌, ◌++◌, length, get_or, take, drop, set, sym, ap, ◌∙◌, append_assoc, append-nil, add-zero, add_assoc, add-one, arith, length-append, length-drop, take-append-drop, drop_of_length-le, length-take-le, get_or-drop, drop-cons, get_or-take, take-take, drop-drop, take_at, get_or-append-add, ext_get_or, take-add, drop_at}
+use Rattle.std.proofs.Common.{◌≡◌, ℕ, suc, ◌+◌, ◌-◌, ◌*◌, ◌/◌, ◌%◌, ◌<◌, ◌≤◌, List, [], ◌∷◌, ◌++◌, length, get_or, take, drop, set, sym, ap, ◌∙◌, append_assoc, append-nil, add-zero, add_assoc, add-one, arith, length-append, length-drop, take-append-drop, drop_of_length-le, length-take-le, get_or-drop, drop-cons, get_or-take, drop-drop, take_at, get_or-append-add, ext_get_or, take-add, drop_at}
 use Prim.{Dec, yes, no}
 use native.Mathlib.Decide.{dec_lt}
 use lib.ListN.{get_or-append}
-use lib.Seq.{set_split, take-append-le, drop-append-add}
+use lib.Seq.{set_split, drop-append-add}
 use Rattle.wire.specs.Wire.{be16, be24, bytes16, bytes24, part, put}
 
 -- ---- a part's length and its bytes
