@@ -47,6 +47,9 @@ FIXED = {
     "set-mode": "setting_modes",
 }
 
+# Names that a file gives what it imports, or to a value of its own.
+LOCAL = ("atLast", "startReader", "fitReader", "noText", "writtenFor", "startedReader", "onesOf", "declaresOf", "comparedOf", "raisedPlace")
+
 
 def crates(root):
     top = os.path.join(root, "crates")
@@ -117,6 +120,8 @@ def table(root):
         new = spelled(name, named)
         if new != name:
             rows[name] = new
+    for name in LOCAL:
+        rows[name] = snake(name)
     return rows, all_of
 
 

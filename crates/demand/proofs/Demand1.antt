@@ -26,8 +26,8 @@ use Rattle.machine.proofs.Fresh.{start-view, start_tail}
 use Rattle.machine.proofs.Steps.{refused-view, never_10}
 use Rattle.shelf.specs.Layout.{reader_mark, reader_bytes}
 use Rattle.shelf.specs.View.{reader_in}
-use Rattle.shelf.specs.Range.{fit as fitReader}
-use Rattle.shelf.specs.Fresh.{start_of as startReader, started_on as startedReader}
+use Rattle.shelf.specs.Range.{fit as fit_reader}
+use Rattle.shelf.specs.Fresh.{start_of as start_reader, started_on as started_reader}
 use Rattle.shelf.specs.Received.{read_of}
 use Rattle.shelf.specs.Runs.{reads_of}
 use Rattle.shelf.proofs.Fresh as fresh
@@ -125,8 +125,8 @@ pub begun : (s : List ℕ) → state_bytes ≤ length s → start_of s ≡ told 
 unfolding start_of
 begun s h = rw (le-leb _ _ h)
 
-pub reader-begun : (s : List ℕ) → reader_bytes ≤ length s → startReader s ≡ told 0 (startedReader s)
-unfolding startReader
+pub reader-begun : (s : List ℕ) → reader_bytes ≤ length s → start_reader s ≡ told 0 (started_reader s)
+unfolding start_reader
 reader-begun s h = rw (le-leb _ _ h)
 
 starts : Starts Controller start_of state_bytes 10 view start
@@ -141,8 +141,8 @@ starts =
       short = λ s h. rw (lt-leb _ _ h);
     }
 
-reader-starts : Starts Reader startReader reader_bytes 25 reader_in reader_start
-unfolding startReader
+reader-starts : Starts Reader start_reader reader_bytes 25 reader_in reader_start
+unfolding start_reader
 reader-starts =
     record {
       enough = λ s h. (
@@ -155,7 +155,7 @@ reader-starts =
 
 -- ---- the reader
 
-hears : (s f o : List ℕ) → fitReader s ≡ true → (read_of s f o).reply ≡ (reader_step (reader_in s) f (length o)).reply
+hears : (s f o : List ℕ) → fit_reader s ≡ true → (read_of s f o).reply ≡ (reader_step (reader_in s) f (length o)).reply
 unfolding read_of
 hears s f o e = rw e
 
@@ -167,7 +167,7 @@ controllers s f o h =
     (other_mark reader_bytes reader_mark s
     (λ e. eqb-false controller_mark reader_mark refl (sym (fitting_true state_bytes controller_mark s h).mark ∙ e)))
 
-readers : (s f o : List ℕ) → fitReader s ≡ true → step_of s f o ≡ res 10 o s
+readers : (s f o : List ℕ) → fit_reader s ≡ true → step_of s f o ≡ res 10 o s
 unfolding step_of
 readers s f o h =
     rw (other_mark state_bytes controller_mark s
@@ -198,7 +198,7 @@ demand1 =
             later_bytes = later_bytes;
             leaves = λ s f o e b. received-view s f o (fitting_true reader_bytes reader_mark s e) b;
             moved_on_lem = moved_on_lem;
-            never_25 = λ s h xs b. ap (λ (t : Told). fitReader (reads_of t.state xs)) (reader-begun s h) ∙ never_25 s h xs b;
+            never_25 = λ s h xs b. ap (λ (t : Told). fit_reader (reads_of t.state xs)) (reader-begun s h) ∙ never_25 s h xs b;
           };
       apart = record { controllers = controllers; readers = readers };
     }

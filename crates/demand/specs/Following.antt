@@ -19,7 +19,7 @@ use Rattle.lent.specs.Calls.{Framed, calls}
 use Rattle.machine.specs.Called.{step_of, start_of}
 use Rattle.machine.specs.Runs.{Agrees, run_of}
 use Rattle.shelf.specs.Layout.{reader_bytes}
-use Rattle.shelf.specs.Fresh.{start_of as startReader}
+use Rattle.shelf.specs.Fresh.{start_of as start_reader}
 use Rattle.shelf.specs.Received.{read_of}
 use Rattle.shelf.specs.Runs.{Agrees as ReaderAgrees, reads_of}
 
@@ -29,5 +29,5 @@ pub record Demand2 : Type 0 where
   pub counts : (s : List ℕ) → state_bytes ≤ length s → (xs : List (List ℕ × List ℕ)) → Framed xs
       → Counted (view (run_of (start_of s).state xs)) (history start (calls xs)) (sent_by start (calls xs))
   pub reads : (s : List ℕ) → reader_bytes ≤ length s → (xs : List (List ℕ × List ℕ)) → Framed xs → (f o : List ℕ) → Bytes f
-      → let left : List ℕ = reads_of (startReader s).state xs in
+      → let left : List ℕ = reads_of (start_reader s).state xs in
       ReaderAgrees (read_of left f o) (reader_step (reads reader_start (calls xs)) f (length o)) o left

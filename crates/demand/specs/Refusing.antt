@@ -22,8 +22,8 @@ use Rattle.machine.specs.Called.{step_of, start_of}
 use Rattle.machine.specs.Runs.{run_of}
 use Rattle.shelf.specs.Layout.{reader_bytes}
 use Rattle.shelf.specs.View.{reader_in}
-use Rattle.shelf.specs.Range.{fit as fitReader}
-use Rattle.shelf.specs.Fresh.{start_of as startReader}
+use Rattle.shelf.specs.Range.{fit as fit_reader}
+use Rattle.shelf.specs.Fresh.{start_of as start_reader}
 use Rattle.shelf.specs.Received.{read_of}
 use Rattle.shelf.specs.Runs.{reads_of}
 
@@ -73,30 +73,30 @@ record_moved_on k t count =
 -- A call leaves bytes that hold the reader that document 01's is left with (`leaves`). After 23 that is the one before with the record of
 -- the packet's stream moved on, every other stream's as it was (`moved_on_lem`).
 pub record Receives : Type 0 where
-  pub unfit : (s f o : List ℕ) → fitReader s ≡ false → read_of s f o ≡ res 25 o s
-  pub number : (s f o : List ℕ) → fitReader s ≡ true → (read_of s f o).reply ≡ (reader_step (reader_in s) f (length o)).reply
+  pub unfit : (s f o : List ℕ) → fit_reader s ≡ false → read_of s f o ≡ res 25 o s
+  pub number : (s f o : List ℕ) → fit_reader s ≡ true → (read_of s f o).reply ≡ (reader_step (reader_in s) f (length o)).reply
   pub silent : (s f o : List ℕ) → ((read_of s f o).out ≡ o) ⊎ ((read_of s f o).reply ≡ 1)
   pub only_23 : (s f o : List ℕ)
       → ((read_of s f o).state ≡ s) ⊎ (((read_of s f o).reply ≡ 0) ⊎ (((read_of s f o).reply ≡ 1) ⊎ ((read_of s f o).reply ≡ 23)))
   pub handed_past : (s f o : List ℕ) → (read_of s f o).reply ≡ 1
       → drop (listed (packet_stream f)) (read_of s f o).out ≡ drop (listed (packet_stream f)) o
   pub later_bytes : (s f o : List ℕ) → drop reader_bytes (read_of s f o).state ≡ drop reader_bytes s
-  pub leaves : (s f o : List ℕ) → fitReader s ≡ true → Bytes f
+  pub leaves : (s f o : List ℕ) → fit_reader s ≡ true → Bytes f
       → reader_in (read_of s f o).state ≡ (reader_step (reader_in s) f (length o)).next
   pub moved_on_lem : (s f o : List ℕ) → Bytes f → (read_of s f o).reply ≡ 23
       → let t : ℕ = packet_stream f in
       reader_in (read_of s f o).state ≡ replaced (reader_in s) t (record_moved_on (pieces t) (reader_in s t) (packet_count f))
   pub never_25 : (s : List ℕ) → reader_bytes ≤ length s → (xs : List (List ℕ × List ℕ)) → Framed xs
-      → fitReader (reads_of (startReader s).state xs) ≡ true
+      → fit_reader (reads_of (start_reader s).state xs) ≡ true
 
 -- Ours, of 10 and 25: bytes that one machine's calls take are refused by the other's.
 pub record Apart : Type 0 where
   pub controllers : (s f o : List ℕ) → fit s ≡ true → read_of s f o ≡ res 25 o s
-  pub readers : (s f o : List ℕ) → fitReader s ≡ true → step_of s f o ≡ res 10 o s
+  pub readers : (s f o : List ℕ) → fit_reader s ≡ true → step_of s f o ≡ res 10 o s
 
 pub record Demand1 : Type 0 where
   pub starts : Starts Controller start_of state_bytes 10 view start
   pub judges : Judges
-  pub reader-starts : Starts Reader startReader reader_bytes 25 reader_in reader_start
+  pub reader-starts : Starts Reader start_reader reader_bytes 25 reader_in reader_start
   pub receives : Receives
   pub apart : Apart

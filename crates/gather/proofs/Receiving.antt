@@ -74,17 +74,17 @@ module _ (s : List ℕ) (t : ℕ) (c : carried t ≡ true) (count : ℕ) (small 
     stores Kept u = res 0 o (noted (kept u) u)
     stores Finished u = hands_to (noted (kept u) u) t o
 
-    gathered : (anew goes : Bool) → (anew || goes) ≡ true → (atLast : Bool)
-        → moves_to s t anew goes atLast count place x o ≡ gathers_to s t atLast count place x o
-    gathered true goes e atLast = refl
-    gathered false true e atLast = refl
-    gathered false false e atLast = cc
+    gathered : (anew goes : Bool) → (anew || goes) ≡ true → (at_last : Bool)
+        → moves_to s t anew goes at_last count place x o ≡ gathers_to s t at_last count place x o
+    gathered true goes e at_last = refl
+    gathered false true e at_last = refl
+    gathered false false e at_last = cc
 
-    dropped : (anew goes : Bool) → (anew || goes) ≡ false → (atLast : Bool)
-        → moves_to s t anew goes atLast count place x o ≡ res 0 o (recorded_on s t count place 0)
-    dropped true goes e atLast = cc
-    dropped false true e atLast = cc
-    dropped false false e atLast = refl
+    dropped : (anew goes : Bool) → (anew || goes) ≡ false → (at_last : Bool)
+        → moves_to s t anew goes at_last count place x o ≡ res 0 o (recorded_on s t count place 0)
+    dropped true goes e at_last = cc
+    dropped false true e at_last = cc
+    dropped false false e at_last = refl
 
     module _ (m : Moved) (right : Right found (pieces t) count m) where
       same : (n : Moved) → Right found (pieces t) count n → (y : Res) → y ≡ stores n.step n.track → y ≡ stores m.step m.track

@@ -8,7 +8,7 @@ use native.Mathlib.Omega.{arith}
 use lib.Dec.{eqb}
 use lib.Count.{ones, ones_step}
 use Rattle.paper.specs.Status.{bit, bit_of}
-use Rattle.paper.specs.Impact.{compared, ones as onesOf}
+use Rattle.paper.specs.Impact.{compared, ones as ones_of}
 use Rattle.paper.proofs.Labels.{bit_le, bit_back}
 use Rattle.impact.specs.Window.{window_of, window_after}
 
@@ -46,7 +46,7 @@ ones_from w k =
     ∙ ap (λ (n : ℕ). cond (bit_of w k) 1 0 + ones n) rest
 
 -- the ones of a window's byte are those of the window
-pub ones_counted : (w : ℕ) → w < 32 → ones w ≡ onesOf (window_of w)
+pub ones_counted : (w : ℕ) → w < 32 → ones w ≡ ones_of (window_of w)
 unfolding ones
 ones_counted w h =
     let none : w / 32 ≡ 0 = omega arith in

@@ -3,13 +3,13 @@
 -- Assumes nothing.
 use Rattle.std.specs.Prelude.{◌≡◌, List, [], ◌∷◌, ◌++◌, ℕ}
 use Prim.Native.Char.{code}
-use Prim.Native.String.{String, [] as noText, ◌∷◌ as ◌then◌}
+use Prim.Native.String.{String, [] as no_text, ◌∷◌ as ◌then◌}
 use Rattle.lines.specs.Hex.{hex_of, decimal_of}
 use Rattle.lines.specs.Frames.{frames_of}
 
 -- the characters of a text
 abbrev pub chars : String → List ℕ
-chars noText = []
+chars no_text = []
 chars (c then cs) = code c ∷ chars cs
 
 -- a text as a line, with its LF in front of what follows

@@ -33,7 +33,7 @@ abbrev place : ℕ → ℕ
 place k = commands_at + 2 * k
 
 -- the count at a place, where the one at another may have been raised
-abbrev count : List ℕ → (raisedPlace at : ℕ) → ℕ
+abbrev count : List ℕ → (raised_place at : ℕ) → ℕ
 count s r at = cond (eqb at r) (raised (be16 s at)) (be16 s at)
 
 -- the bytes of the count at a place, raised

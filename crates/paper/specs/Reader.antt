@@ -42,10 +42,10 @@ gathers true count place g = finished (record { last = count; place = place; run
 gathers false count place g = taken (record { last = count; place = place; running = true; gathered = g })
 
 -- "at place 0 gathering starts anew; at d = 1 a running gathering goes on; otherwise it is dropped"
-abbrev pub moves : {A : Type 0} → (anew going_on atLast : Bool) → ℕ → ℕ → List A → A → ArrivalEffect A
-moves true going_on atLast count place g x = gathers atLast count place (x ∷ [])
-moves false true atLast count place g x = gathers atLast count place (g ++ (x ∷ []))
-moves false false atLast count place g x = taken (record { last = count; place = place; running = false; gathered = [] })
+abbrev pub moves : {A : Type 0} → (anew going_on at_last : Bool) → ℕ → ℕ → List A → A → ArrivalEffect A
+moves true going_on at_last count place g x = gathers at_last count place (x ∷ [])
+moves false true at_last count place g x = gathers at_last count place (g ++ (x ∷ []))
+moves false false at_last count place g x = taken (record { last = count; place = place; running = false; gathered = [] })
 
 -- "If 0: repeat. Else the place moves on"
 abbrev pub arrives : {A : Type 0} → Bool → ℕ → Track A → ℕ → ℕ → A → ArrivalEffect A

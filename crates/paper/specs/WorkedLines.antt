@@ -8,7 +8,7 @@
 -- Assumes nothing.
 use Rattle.std.specs.Prelude.{◌≡◌, Bool, true, false, cond, ◌&&◌, List, [], ◌∷◌, ◌++◌, map, ℕ, zero, suc, ◌+◌, ◌-◌, ◌*◌, ◌/◌, ◌%◌, eqb, ltb, length, take, drop}
 use Prim.Native.Char.{Char, code}
-use Prim.Native.String.{String, [] as noText, ◌∷◌ as ◌then◌}
+use Prim.Native.String.{String, [] as no_text, ◌∷◌ as ◌then◌}
 use Rattle.wire.specs.Wire.{bytes16}
 use Rattle.paper.specs.Controller.{Controller, start}
 use Rattle.paper.specs.Step.{Outcome, step}
@@ -22,7 +22,7 @@ digit c = cond (ltb (code c) 58) (code c - 48) (code c - 55)
 
 -- the digits of a text; blanks stand anywhere
 abbrev pub digits : String → List ℕ
-digits noText = []
+digits no_text = []
 digits (c then cs) = cond (eqb (code c) 32) (digits cs) (digit c ∷ digits cs)
 
 -- two digits a byte

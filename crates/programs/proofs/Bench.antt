@@ -20,7 +20,7 @@ use Rattle.paper.specs.Step.{Outcome, step}
 use Rattle.paper.specs.Runs.{replies}
 use Rattle.paper.proofs.Shapes.{either, sided}
 use Rattle.paper.proofs.Refusals.{Clear, passed, reply_is, silent}
-use Rattle.paper.proofs.Kept.{Kept, kept-start, kept_step, written as writtenFor, writes}
+use Rattle.paper.proofs.Kept.{Kept, kept-start, kept_step, written as written_for, writes}
 use Rattle.state.specs.Layout.{state_bytes}
 use Rattle.state.specs.View.{view}
 use Rattle.state.specs.Range.{Fit}
@@ -37,7 +37,7 @@ use Rattle.programs.specs.Says.{bench_line, lines_of, lent}
 
 -- of a frame that is not faulty
 abbrev Counts : Controller → List ℕ → Frame → Type 0
-Counts c f x = Clear c x 1 → bytes_written 0 f ≡ writtenFor x
+Counts c f x = Clear c x 1 → bytes_written 0 f ≡ written_for x
 
 module _ (c : Controller) (f : List ℕ) where
   none : Counts c f faulty
@@ -78,7 +78,7 @@ front c f room o k = at (eqb (step c f room).reply 0) refl
     at : (b : Bool) → eqb p.reply 0 ≡ b → take (bytes_written p.reply f) (put o 0 p.out) ≡ p.out
     at true e =
         let r : p.reply ≡ 0 = eqb-true p.reply 0 e in
-        let n : bytes_written p.reply f ≡ writtenFor (frame_of f) =
+        let n : bytes_written p.reply f ≡ written_for (frame_of f) =
         ap (λ (m : ℕ). bytes_written m f) r ∙ counts c f (passed c (frame_of f) room (sym (reply_is c f room) ∙ r)).shape in
         take_at p.out (drop (0 + length p.out) o) (bytes_written p.reply f) (writes c f room k r ∙ sym n)
     at false e = rw e (sym (silent c f room (eqb-false p.reply 0 e)))

@@ -33,10 +33,10 @@ abbrev pub gathers_to : List ℕ → ℕ → Bool → ℕ → ℕ → List ℕ �
 gathers_to s t true count place x o = hands_to (gathers_on s t true count place x) t o
 gathers_to s t false count place x o = res 0 o (gathers_on s t false count place x)
 
-abbrev pub moves_to : List ℕ → ℕ → (anew going_on atLast : Bool) → ℕ → ℕ → List ℕ → List ℕ → Res
-moves_to s t true going_on atLast count place x o = gathers_to s t atLast count place x o
-moves_to s t false true atLast count place x o = gathers_to s t atLast count place x o
-moves_to s t false false atLast count place x o = res 0 o (recorded_on s t count place 0)
+abbrev pub moves_to : List ℕ → ℕ → (anew going_on at_last : Bool) → ℕ → ℕ → List ℕ → List ℕ → Res
+moves_to s t true going_on at_last count place x o = gathers_to s t at_last count place x o
+moves_to s t false true at_last count place x o = gathers_to s t at_last count place x o
+moves_to s t false false at_last count place x o = res 0 o (recorded_on s t count place 0)
 
 abbrev pub arrives_to : List ℕ → ℕ → Bool → ℕ → ℕ → List ℕ → List ℕ → Res
 arrives_to s t true count d x o = res 22 o s
@@ -102,15 +102,15 @@ module _ (s : List ℕ) (f : Fit s) (t : ℕ) (c : carried t ≡ true) (count : 
       at false = refl
   gathers_formed false place g h l e = refl
 
-  moves_formed : (d : ℕ) (anew going_on atLast : Bool) → eqb (placed (pieces t) (place_in s t) d) 0 ≡ anew
-      → (eqb d 1 && runs_in s t) ≡ going_on → eqb (placed (pieces t) (place_in s t) d) (pieces t - 1) ≡ atLast
+  moves_formed : (d : ℕ) (anew going_on at_last : Bool) → eqb (placed (pieces t) (place_in s t) d) 0 ≡ anew
+      → (eqb d 1 && runs_in s t) ≡ going_on → eqb (placed (pieces t) (place_in s t) d) (pieces t - 1) ≡ at_last
       → told_of
       (received (reader_in s) t
-      (moves anew going_on atLast count (placed (pieces t) (place_in s t) d) (track_in s t).gathered x)) o
-      (moves_on s t anew going_on atLast count (placed (pieces t) (place_in s t) d) x)
-      ≡ moves_to s t anew going_on atLast count (placed (pieces t) (place_in s t) d) x o
+      (moves anew going_on at_last count (placed (pieces t) (place_in s t) d) (track_in s t).gathered x)) o
+      (moves_on s t anew going_on at_last count (placed (pieces t) (place_in s t) d) x)
+      ≡ moves_to s t anew going_on at_last count (placed (pieces t) (place_in s t) d) x o
   unfolding received track_in
-  moves_formed d anew going_on atLast a g l = at anew going_on a g
+  moves_formed d anew going_on at_last a g l = at anew going_on a g
     where
       place : ℕ
       place = placed (pieces t) (place_in s t) d
@@ -119,11 +119,11 @@ module _ (s : List ℕ) (f : Fit s) (t : ℕ) (c : carried t ≡ true) (count : 
       within = mod-lt (place_in s t + d) (ltb-true 0 (pieces t) c)
 
       at : (anew going_on : Bool) → eqb place 0 ≡ anew → (eqb d 1 && runs_in s t) ≡ going_on
-          → told_of (received (reader_in s) t (moves anew going_on atLast count place (track_in s t).gathered x)) o
-          (moves_on s t anew going_on atLast count place x)
-          ≡ moves_to s t anew going_on atLast count place x o
+          → told_of (received (reader_in s) t (moves anew going_on at_last count place (track_in s t).gathered x)) o
+          (moves_on s t anew going_on at_last count place x)
+          ≡ moves_to s t anew going_on at_last count place x o
       at true going_on a g =
-          gathers_formed atLast place (x ∷ []) within l
+          gathers_formed at_last place (x ∷ []) within l
           (ap (λ (n : ℕ). chunks 118 n (drop (gather_at t) s) ++ (x ∷ [])) (eqb-true place 0 a))
       at false true a g =
           let h = both (eqb d 1) (runs_in s t) g in
@@ -131,7 +131,7 @@ module _ (s : List ℕ) (f : Fit s) (t : ℕ) (c : carried t ≡ true) (count : 
           let next : place ≡ suc (place_in s t) =
           ap (placed (pieces t) (place_in s t)) one
           ∙ follows (place_in s t) (pieces t) (mod-lt (get_or s (place_at t) 0) (ltb-true 0 (pieces t) c)) (rw one at a) in
-          gathers_formed atLast place ((track_in s t).gathered ++ (x ∷ [])) within l
+          gathers_formed at_last place ((track_in s t).gathered ++ (x ∷ [])) within l
           (rw h.1 (ap (λ (n : ℕ). chunks 118 n (drop (gather_at t) s) ++ (x ∷ [])) next))
       at false false a g = refl
 

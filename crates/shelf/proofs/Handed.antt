@@ -63,11 +63,11 @@ module _ (s : List ℕ) (w : reader_bytes ≤ length s) (t : ℕ) (c : carried t
       at false = inr ((λ e. absurd (omega arith)), refl)
   gathers-listed false place h = inr ((λ e. absurd (omega arith)), refl)
 
-  moves-listed : (anew going_on atLast : Bool) (place : ℕ) → place < 7
-      → Listed t (moves_to s t anew going_on atLast count place x []).reply (moves_to s t anew going_on atLast count place x []).out
-  moves-listed true going_on atLast place h = gathers-listed atLast place h
-  moves-listed false true atLast place h = gathers-listed atLast place h
-  moves-listed false false atLast place h = inr ((λ e. absurd (omega arith)), refl)
+  moves-listed : (anew going_on at_last : Bool) (place : ℕ) → place < 7
+      → Listed t (moves_to s t anew going_on at_last count place x []).reply (moves_to s t anew going_on at_last count place x []).out
+  moves-listed true going_on at_last place h = gathers-listed at_last place h
+  moves-listed false true at_last place h = gathers-listed at_last place h
+  moves-listed false false at_last place h = inr ((λ e. absurd (omega arith)), refl)
 
   arrives-listed : (b : Bool) (d : ℕ) → Listed t (arrives_to s t b count d x []).reply (arrives_to s t b count d x []).out
   arrives-listed true d = inr ((λ e. absurd (omega arith)), refl)

@@ -36,17 +36,17 @@ module _ (s : List ℕ) (w : reader_bytes ≤ length s) (t : ℕ) (c : carried t
   r : Carried t
   r = carried_rules t c
 
-  gathers-past : (atLast : Bool) (place : ℕ) → place < 7 → drop reader_bytes (gathers_on s t atLast count place x) ≡ drop reader_bytes s
+  gathers-past : (at_last : Bool) (place : ℕ) → place < 7 → drop reader_bytes (gathers_on s t at_last count place x) ≡ drop reader_bytes s
   unfolding gathers_on
-  gathers-past atLast place h =
+  gathers-past at_last place h =
       let body : Elsewhere (put s (piece_at t place) x) s t = body-elsewhere s w t r.small place x h sized in
-      (record_elsewhere (put s (piece_at t place) x) (omega (arith, body.long)) t r.small count place (cond atLast 0 1)).past ∙ body.past
+      (record_elsewhere (put s (piece_at t place) x) (omega (arith, body.long)) t r.small count place (cond at_last 0 1)).past ∙ body.past
 
-  moves-past : (anew going_on atLast : Bool) (place : ℕ) → place < 7
-      → drop reader_bytes (moves_on s t anew going_on atLast count place x) ≡ drop reader_bytes s
-  moves-past true going_on atLast place h = gathers-past atLast place h
-  moves-past false true atLast place h = gathers-past atLast place h
-  moves-past false false atLast place h = (record_elsewhere s w t r.small count place 0).past
+  moves-past : (anew going_on at_last : Bool) (place : ℕ) → place < 7
+      → drop reader_bytes (moves_on s t anew going_on at_last count place x) ≡ drop reader_bytes s
+  moves-past true going_on at_last place h = gathers-past at_last place h
+  moves-past false true at_last place h = gathers-past at_last place h
+  moves-past false false at_last place h = (record_elsewhere s w t r.small count place 0).past
 
   arrives-past : (b : Bool) (d : ℕ) → drop reader_bytes (arrives_on s t b count d x) ≡ drop reader_bytes s
   arrives-past true d = refl
@@ -113,8 +113,8 @@ abbrev moved : Reader → ℕ → ℕ → ℕ → Reader
 moved r t count place = Queue.replaced r t (record { last = count; place = place; running = false; gathered = [] })
 
 module _ (r : Reader) (t count : ℕ) (x : List ℕ) where
-  gathers_wrong : (atLast : Bool) (place : ℕ) (g : List (List ℕ)) → (received r t (gathers atLast count place g)).reply ≡ 23
-      → (received r t (gathers atLast count place g)).next ≡ moved r t count place
+  gathers_wrong : (at_last : Bool) (place : ℕ) (g : List (List ℕ)) → (received r t (gathers at_last count place g)).reply ≡ 23
+      → (received r t (gathers at_last count place g)).next ≡ moved r t count place
   unfolding received
   gathers_wrong true place g e = at (sound t (joined g))
     where
@@ -125,13 +125,13 @@ module _ (r : Reader) (t count : ℕ) (x : List ℕ) where
       at false = refl
   gathers_wrong false place g e = absurd (eqb-false 0 23 refl e)
 
-  moves_wrong : (anew going_on atLast : Bool) (place : ℕ) (g : List (List ℕ))
-      → (received r t (moves anew going_on atLast count place g x)).reply ≡ 23
-      → (received r t (moves anew going_on atLast count place g x)).next ≡ moved r t count place
+  moves_wrong : (anew going_on at_last : Bool) (place : ℕ) (g : List (List ℕ))
+      → (received r t (moves anew going_on at_last count place g x)).reply ≡ 23
+      → (received r t (moves anew going_on at_last count place g x)).next ≡ moved r t count place
   unfolding received
-  moves_wrong true going_on atLast place g e = gathers_wrong atLast place _ e
-  moves_wrong false true atLast place g e = gathers_wrong atLast place _ e
-  moves_wrong false false atLast place g e = absurd (eqb-false 0 23 refl e)
+  moves_wrong true going_on at_last place g e = gathers_wrong at_last place _ e
+  moves_wrong false true at_last place g e = gathers_wrong at_last place _ e
+  moves_wrong false false at_last place g e = absurd (eqb-false 0 23 refl e)
 
   arrives_wrong : (b : Bool) (k : ℕ) (q : Track (List ℕ)) (d : ℕ) → (received r t (arrives b k q count d x)).reply ≡ 23
       → (received r t (arrives b k q count d x)).next ≡ moved r t count (placed k q.place d)

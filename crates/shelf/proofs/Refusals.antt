@@ -39,17 +39,17 @@ module _ (r : Reader) (t : ℕ) where
   handed true o q = inr (inl refl)
   handed false o q = inr (inr refl)
 
-  gathers-moved : (atLast : Bool) (count place : ℕ) (g : List (List ℕ)) → Moved (received r t (gathers atLast count place g)).reply
+  gathers-moved : (at_last : Bool) (count place : ℕ) (g : List (List ℕ)) → Moved (received r t (gathers at_last count place g)).reply
   unfolding received
   gathers-moved true count place g = handed (sound t (joined g)) _ _
   gathers-moved false count place g = inl refl
 
-  moves-moved : (anew going_on atLast : Bool) (count place : ℕ) (g : List (List ℕ)) (x : List ℕ)
-      → Moved (received r t (moves anew going_on atLast count place g x)).reply
+  moves-moved : (anew going_on at_last : Bool) (count place : ℕ) (g : List (List ℕ)) (x : List ℕ)
+      → Moved (received r t (moves anew going_on at_last count place g x)).reply
   unfolding received
-  moves-moved true going_on atLast count place g x = gathers-moved atLast count place _
-  moves-moved false true atLast count place g x = gathers-moved atLast count place _
-  moves-moved false false atLast count place g x = inl refl
+  moves-moved true going_on at_last count place g x = gathers-moved at_last count place _
+  moves-moved false true at_last count place g x = gathers-moved at_last count place _
+  moves-moved false false at_last count place g x = inl refl
 
   arrives-moved : (k : ℕ) (q : Track (List ℕ)) (count d : ℕ) (x : List ℕ)
       → Moved (received r t (arrives false k q count d x)).reply

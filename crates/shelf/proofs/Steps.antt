@@ -113,13 +113,13 @@ module _ (s : List ℕ) (f : Fit s) (t : ℕ) (c : carried t ≡ true) where
             (record_track y long t r.small count place 1 small h r.few
             ∙ ap (λ (l : List (List ℕ)). record { last = count; place = place; running = true; gathered = l }) snoc)
 
-    moved-left : (d : ℕ) (anew going_on atLast : Bool) → eqb (placed (pieces t) (place_in s t) d) 0 ≡ anew
+    moved-left : (d : ℕ) (anew going_on at_last : Bool) → eqb (placed (pieces t) (place_in s t) d) 0 ≡ anew
         → (eqb d 1 && runs_in s t) ≡ going_on
-        → Left (moves_on s t anew going_on atLast count (placed (pieces t) (place_in s t) d) x) s
+        → Left (moves_on s t anew going_on at_last count (placed (pieces t) (place_in s t) d) x) s
         (received (reader_in s) t
-        (moves anew going_on atLast count (placed (pieces t) (place_in s t) d) (track_in s t).gathered x)).next
+        (moves anew going_on at_last count (placed (pieces t) (place_in s t) d) (track_in s t).gathered x)).next
     unfolding received track_in
-    moved-left d anew going_on atLast = at anew going_on
+    moved-left d anew going_on at_last = at anew going_on
       where
         place : ℕ
         place = placed (pieces t) (place_in s t) d
@@ -128,10 +128,10 @@ module _ (s : List ℕ) (f : Fit s) (t : ℕ) (c : carried t ≡ true) where
         within = mod-lt (place_in s t + d) (ltb-true 0 (pieces t) c)
 
         at : (anew going_on : Bool) → eqb place 0 ≡ anew → (eqb d 1 && runs_in s t) ≡ going_on
-            → Left (moves_on s t anew going_on atLast count place x) s
-            (received (reader_in s) t (moves anew going_on atLast count place (track_in s t).gathered x)).next
+            → Left (moves_on s t anew going_on at_last count place x) s
+            (received (reader_in s) t (moves anew going_on at_last count place (track_in s t).gathered x)).next
         at true going_on a g =
-            gathered-left atLast place (x ∷ []) within
+            gathered-left at_last place (x ∷ []) within
             (ap (λ (n : ℕ). chunks 118 n (drop (gather_at t) s) ++ (x ∷ [])) (eqb-true place 0 a))
         at false true a g =
             let h = both (eqb d 1) (runs_in s t) g in
@@ -139,7 +139,7 @@ module _ (s : List ℕ) (f : Fit s) (t : ℕ) (c : carried t ≡ true) where
             let next : place ≡ suc (place_in s t) =
             ap (placed (pieces t) (place_in s t)) one
             ∙ follows (place_in s t) (pieces t) (mod-lt (get_or s (place_at t) 0) (ltb-true 0 (pieces t) c)) (rw one at a) in
-            gathered-left atLast place ((track_in s t).gathered ++ (x ∷ [])) within
+            gathered-left at_last place ((track_in s t).gathered ++ (x ∷ [])) within
             (rw h.1 (ap (λ (n : ℕ). chunks 118 n (drop (gather_at t) s) ++ (x ∷ [])) next))
         at false false a g = dropped_left place within
 

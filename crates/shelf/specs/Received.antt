@@ -19,13 +19,13 @@ recorded_on s t last place mark = put s (record_at t) (record_of last place mark
 
 -- a piece gathered: its body, then the record. "The last place of a running gathering .. ends the gathering."
 unfoldable pub gathers_on : List ℕ → ℕ → Bool → ℕ → ℕ → List ℕ → List ℕ
-gathers_on s t atLast count place x = recorded_on (put s (piece_at t place) x) t count place (cond atLast 0 1)
+gathers_on s t at_last count place x = recorded_on (put s (piece_at t place) x) t count place (cond at_last 0 1)
 
 -- "at place 0 gathering starts anew; at d = 1 a running gathering goes on; otherwise it is dropped"
-abbrev pub moves_on : List ℕ → ℕ → (anew going_on atLast : Bool) → ℕ → ℕ → List ℕ → List ℕ
-moves_on s t true going_on atLast count place x = gathers_on s t atLast count place x
-moves_on s t false true atLast count place x = gathers_on s t atLast count place x
-moves_on s t false false atLast count place x = recorded_on s t count place 0
+abbrev pub moves_on : List ℕ → ℕ → (anew going_on at_last : Bool) → ℕ → ℕ → List ℕ → List ℕ
+moves_on s t true going_on at_last count place x = gathers_on s t at_last count place x
+moves_on s t false true at_last count place x = gathers_on s t at_last count place x
+moves_on s t false false at_last count place x = recorded_on s t count place 0
 
 -- "If 0: repeat. Else the place moves on"
 abbrev pub arrives_on : List ℕ → ℕ → Bool → ℕ → ℕ → List ℕ → List ℕ

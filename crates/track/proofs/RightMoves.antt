@@ -33,11 +33,11 @@ module _ {A : Type 0} (count place : ℕ) (g : List A) (x : A) where
   moves-finished false true e = refl
   moves-finished false false e = cc
 
-  pub moves_dropped : (anew going_on atLast : Bool) → (anew || going_on) ≡ false
-      → moves anew going_on atLast count place g x ≡ taken (record { last = count; place = place; running = false; gathered = [] })
-  moves_dropped true going_on atLast e = cc
-  moves_dropped false true atLast e = cc
-  moves_dropped false false atLast e = refl
+  pub moves_dropped : (anew going_on at_last : Bool) → (anew || going_on) ≡ false
+      → moves anew going_on at_last count place g x ≡ taken (record { last = count; place = place; running = false; gathered = [] })
+  moves_dropped true going_on at_last e = cc
+  moves_dropped false true at_last e = cc
+  moves_dropped false false at_last e = refl
 
 -- ---- the moves, for pieces of any form
 
