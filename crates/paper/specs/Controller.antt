@@ -1,6 +1,6 @@
 -- The controller of document 01: what it keeps, and what it holds when fresh.
 -- Assumes nothing.
-use Rattle.std.specs.Prelude.{Bool, true, false, cond, List, [], ◌∷◌, ◌++◌, ℕ, ◌+◌, ◌%◌, replicate}
+use Rattle.std.specs.Prelude.{false, List, [], ◌++◌, ℕ, ◌+◌, ◌%◌, replicate}
 use Rattle.paper.specs.Frames.{Channel, cdmu_a, cdmu_b}
 use Rattle.paper.specs.Clock.{Clock, now}
 use Rattle.paper.specs.Mode.{Standing, upper, nibble}

@@ -1,7 +1,7 @@
 -- Document 01, "Time and mode", and the manual's 2.4: the eight modes, what an accepted broadcast does to the mode of an
 -- unlocked controller, and what an entry stores.
 -- Assumes nothing.
-use Rattle.std.specs.Prelude.{Bool, true, false, cond, not, ◌&&◌, ◌||◌, ℕ, ◌+◌, ◌%◌, leb, eqb}
+use Rattle.std.specs.Prelude.{Bool, cond, not, ◌&&◌, ◌||◌, ℕ, ◌+◌, ◌%◌, leb, eqb}
 use Rattle.paper.specs.Clock.{seconds_of}
 
 -- the manual's names

@@ -1,6 +1,6 @@
 -- Document 01, "Reader": the record of one stream, what an arriving packet does to it, and one call of the reader.
 -- Assumes nothing.
-use Rattle.std.specs.Prelude.{Bool, true, false, cond, not, ◌&&◌, ◌||◌, List, [], ◌∷◌, ◌++◌, ℕ, ◌+◌, ◌-◌, ◌*◌, ◌/◌, ◌%◌, eqb, leb, ltb, length, get_or, take, drop}
+use Rattle.std.specs.Prelude.{Bool, true, false, cond, ◌&&◌, ◌||◌, List, [], ◌∷◌, ◌++◌, ℕ, ◌+◌, ◌-◌, ◌/◌, ◌%◌, eqb, ltb, length, get_or, take, drop}
 use Rattle.wire.specs.Wire.{be16}
 use Rattle.paper.specs.Frames.{cdmu_a, cdmu_b}
 use Rattle.paper.specs.Streams.{pieces, listed, carried}

@@ -1,11 +1,11 @@
 -- Document 01, "What the controller replies": when each reply is given, in which order they are tested, what each refusal
 -- changes, and one call of the controller.
 -- Assumes nothing.
-use Rattle.std.specs.Prelude.{Bool, true, false, cond, not, ◌&&◌, ◌||◌, List, [], ◌∷◌, ℕ, eqb, leb, ltb, length}
+use Rattle.std.specs.Prelude.{Bool, true, false, cond, not, ◌&&◌, ◌||◌, List, [], ◌∷◌, ℕ, eqb, ltb, length}
 use Rattle.wire.specs.Wire.{be16}
 use Rattle.paper.specs.Frames.{Channel, Frame, broadcast, command, tick, sample, poll, status, analogue, faulty, frame_of}
 use Rattle.paper.specs.Clock.{seconds}
-use Rattle.paper.specs.Commands.{Request, clear, housekeeping, set_mode, Decoded, request, refusal, decoded, refused_with}
+use Rattle.paper.specs.Commands.{clear, housekeeping, set_mode, Decoded, request, refusal, decoded, refused_with}
 use Rattle.paper.specs.Streams.{acc_i, hk, Form, of_bytes, of12_bits, pieces, width, form, has_samples, taken_in}
 use Rattle.paper.specs.Packets.{packet_size}
 use Rattle.paper.specs.Queue.{free}

@@ -195,7 +195,7 @@ module _ (k : ℕ) (kp : 0 < k) where
   dropped a e m ms la he le ar none q = (λ w. want_back a e m q ms la le w, λ w. at w (want_cases a e m q ms he le ar w))
     where
       at : Want k a e q (m ∷ ms) → (q ≡ m / k) ⊎ Want k (suc m) (suc m) q ms → Want k (suc m) (suc m) q ms
-      at w (inl h) = absurd (none (rw h at w))
+      at w (inl h) = absurd (none (subst (λ (x : ℕ). Want k a e x (m ∷ ms)) h w))
       at w (inr h) = h
 
   -- the gathering runs on

@@ -21,7 +21,7 @@ use Rattle.paper.specs.Queue.{Piece, wrap, numbered, after, replaced}
 use Rattle.paper.specs.Controller.{Controller, start, stamp_now}
 use Rattle.paper.specs.Housekeeping.{housekeeping_data, housekeeping_packet}
 use Rattle.paper.specs.Acts.{completes, with_reading, impact_packet, joined_by, closes, noted}
-use Rattle.paper.specs.Step.{queues, reply, step}
+use Rattle.paper.specs.Step.{queues, step}
 use Rattle.paper.specs.Runs.{Call, runs}
 use Rattle.paper.specs.History.{is_accepted, full_packet, only_if, sent, sent_at, sent_by, counts_after, numbered_all, Takes, nothing, the_first, named, leaves, takes_at}
 use Rattle.paper.proofs.Packets.{length-pack}

@@ -1,0 +1,36 @@
+-- `status::word_a` meets its contract: the chain of bits, from the highest down to the empty word.
+-- Assumes nothing.
+use Rattle.paper.specs.Status.{word_a}
+use borrow.Author.Rules.{rules}
+use Rattle.status.proofs.word_a.Goals as goal
+
+pub returns : goal.returns
+unfolding word_a
+returns c =
+    let at_14 = c.before in
+    let at_13 = at_14.before.before in
+    let at_12 = at_13.before.before in
+    let at_11 = at_12.before.before in
+    let at_10 = at_11.before.before in
+    let at_9 = at_10.before.before in
+    let at_8 = at_9.before.before in
+    λ m e.
+    rw (
+      e,
+      c.impact.ensures.word,
+      at_14.watchdog-ok.ensures.word,
+      at_14.before.bit-of7.ensures,
+      at_13.all-ok.ensures.word,
+      at_13.before.bit-of6.ensures,
+      at_12.command-bit.ensures.word,
+      at_12.before.bit-of5.ensures,
+      at_11.mode-bit-2.ensures.word,
+      at_11.before.bit-of4.ensures,
+      at_10.mode-bit-1.ensures.word,
+      at_10.before.bit-of3.ensures,
+      at_9.mode-bit-0.ensures.word,
+      at_9.before.bit-of2.ensures,
+      at_8.volts12-ok.ensures.word,
+      at_8.before.bit-of.ensures,
+      at_8.before.before.empty-with.ensures.0,
+    )
