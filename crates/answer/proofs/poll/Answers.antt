@@ -8,7 +8,6 @@ use Rattle.state.proofs.Pieces.{length-pieces}
 use Rattle.machine.specs.Polled.{poll_answered_on}
 use Rattle.machine.specs.Called.{acted_on, refused_on, left_on, told_on, replied_on}
 use native.Mathlib.Omega.{arith}
-use borrow.Author.Rules.{rules}
 use Rattle.answer.proofs.poll.Goals as goal
 
 pub returns-then-waiting-eq0 : goal.returns-then-waiting-eq0

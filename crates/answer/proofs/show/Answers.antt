@@ -3,7 +3,6 @@
 use mathlib.Core.Path.{◌∙◌}
 use Rattle.frames.specs.Meaning.{channel}
 use Rattle.answer.proofs.Shown.{shows}
-use borrow.Author.Rules.{rules}
 use Rattle.answer.proofs.show.Goals as goal
 
 pub returns : goal.returns

@@ -4,7 +4,6 @@ use borrow.Author.Tests.{le-ltb}
 use Rattle.paper.specs.Acts.{answer}
 use Rattle.paper.specs.Step.{reply}
 use Rattle.machine.specs.Called.{acted_on, left_on, told_on, replied_on}
-use borrow.Author.Rules.{rules}
 use Rattle.answer.proofs.status.Goals as goal
 
 pub returns : goal.returns

@@ -7,7 +7,6 @@ use Rattle.paper.specs.Mode.{mode_of}
 use Rattle.paper.specs.Acts.{status_word}
 use Rattle.clock.proofs.Numbers.{number-mode_of}
 use Rattle.state.specs.View.{nibble_in, view, standing_in, impact_in, tallies_in}
-use borrow.Author.Rules.{rules}
 use Rattle.answer.proofs.word.Goals as goal
 
 pub returns-in-A : goal.returns-in-A
@@ -15,9 +14,9 @@ unfolding status_word view standing_in impact_in tallies_in
 returns-in-A c =
     let n = nibble_in c.args.s.now % 8 in
     let small : n < 8 = omega arith in
-    rw (c.enum_told-1.given.1, ← c.get16-commands.ensures) (c.word_a.ensures (mode_of n) (number-mode_of n small ∙ sym (c.mode_in.ensures.0 ∙ ap (λ (m : ℕ). m % 8) c.nibble.ensures.0)))
+    rw (c.in-A.is, ← c.get16-commands.ensures) (c.word_a.ensures (mode_of n) (number-mode_of n small ∙ sym (c.mode_in.ensures.0 ∙ ap (λ (m : ℕ). m % 8) c.nibble.ensures.0)))
 
 pub returns-in-B : goal.returns-in-B
 unfolding status_word view standing_in impact_in tallies_in
 returns-in-B c =
-    rw (c.enum_told-in-B-1.given.1, ← c.get16-commands.ensures) (c.word_b.ensures (mode_of (nibble_in c.args.s.now % 8)))
+    rw (c.in-B.is, ← c.get16-commands.ensures) (c.word_b.ensures (mode_of (nibble_in c.args.s.now % 8)))

@@ -9,7 +9,6 @@ use lib.ListN.{length, drop, length-drop}
 use lib.Seq.{get_or-drop}
 use Rattle.wire.specs.Wire.{be16}
 use Rattle.machine.proofs.Steps.{mode_small}
-use borrow.Author.Rules.{rules}
 use Rattle.order.proofs.decode.Goals as goal
 
 pub returns-then-f-eq8 : goal.returns-then-f-eq8

@@ -16,7 +16,6 @@ use Rattle.paper.specs.Commands as Commands
 use Rattle.paper.specs.Streams.{hk}
 use Rattle.state.specs.View.{view}
 use Rattle.machine.proofs.Sent.{free-room}
-use borrow.Author.Rules.{rules}
 use Rattle.order.proofs.frame.Goals as goal
 
 pub returns-in_default : goal.returns-in_default
@@ -24,8 +23,8 @@ returns-in_default c =
     let s = c.args.s.now in
     let f = c.args.f.now in
     let side = channel c.args.side in
-    let n : ℕ = c.enum_told-1.given.0.0 in
-    let said : meant c.decode-decoded.result ≡ Commands.refusal n = ap meant c.enum_told-1.given.1 in
+    let n : ℕ = c.in_default.field-0 in
+    let said : meant c.decode-decoded.result ≡ Commands.refusal n = ap meant c.in_default.is in
     let r : c.refusal-reply.result ≡ n = c.refusal-reply.ensures ∙ ap Commands.refused_with said in
     rw (c.err.ensures, r) (refuses s side (be16 f 2) (be16 f 4) (drop 6 f) n (sym c.decode-decoded.ensures.0 ∙ said))
 
@@ -34,18 +33,16 @@ returns-then-queues_packet-crowded c =
     let s = c.args.s.now in
     let f = c.args.f.now in
     let side = channel c.args.side in
-    let q = asked c.decoded-1.given.0.0 in
-    let said : meant c.decode-decoded.result ≡ Commands.request q = ap meant c.decoded-1.given.1 in
+    let q = asked c.in-Act.request in
     let t : (queues (Commands.request q) && crowded (view s) hk) ≡ true = rw (c.queues_packet.ensures, c.crowded.ensures) at c.if-queues_packet-crowded.true in
-    rw c.err-then-queues_packet-crowded.ensures (crowds s side (be16 f 2) (be16 f 4) (drop 6 f) q (sym c.decode-decoded.ensures.0 ∙ said) t)
+    rw c.err-then-queues_packet-crowded.ensures (crowds s side (be16 f 2) (be16 f 4) (drop 6 f) q (sym c.in-Act.ensures.0) t)
 
 pub obey-requires : goal.obey-requires
 obey-requires c =
     let s = c.args.s.now in
-    let q = asked c.decoded-1.given.0.0 in
-    let said : meant c.decode-decoded.result ≡ Commands.request q = ap meant c.decoded-1.given.1 in
+    let q = asked c.in-Act.request in
     let free : (queues (Commands.request q) && crowded (view s) hk) ≡ false = rw (c.queues_packet.ensures, c.crowded.ensures) at c.if-queues_packet-crowded.false in
-    rw c.note.ensures ((past-whole (noted-past s _ _ _ c.requires.0) c.requires.0, λ t. omega (arith, noted_waits s c.requires.0 (channel c.args.side) c.get16.result c.get16-2.result, free-room s hk (rw t at free))), λ v e. c.decode-decoded.ensures.1 v (said ∙ ap Commands.request e))
+    rw c.note.ensures record { whole = (past-whole (noted-past s _ _ _ c.requires.0) c.requires.0, λ t. omega (arith, noted_waits s c.requires.0 (channel c.args.side) c.get16.result c.get16-2.result, free-room s hk (rw t at free))); by_index = λ v e. c.in-Act.ensures.1 v (ap Commands.request e) }
 
 pub returns : goal.returns
 unfolding performed_on
@@ -53,9 +50,8 @@ returns c =
     let s = c.args.s.now in
     let f = c.args.f.now in
     let side = channel c.args.side in
-    let q = asked c.decoded-1.given.0.0 in
-    let said : meant c.decode-decoded.result ≡ Commands.request q = ap meant c.decoded-1.given.1 in
-    let e : Commands.decoded (be16 f 2) (drop 6 f) ≡ Commands.request q = sym c.decode-decoded.ensures.0 ∙ said in
+    let q = asked c.in-Act.request in
+    let e : Commands.decoded (be16 f 2) (drop 6 f) ≡ Commands.request q = sym c.in-Act.ensures.0 in
     let t : (queues (Commands.request q) && crowded (view s) hk) ≡ false = rw (c.queues_packet.ensures, c.crowded.ensures) at c.if-queues_packet-crowded.false in
     let act : c.obey.new.s ≡ performed_on (noted_on s side (be16 f 2) (be16 f 4)) (Commands.decoded (be16 f 2) (drop 6 f)) = c.obey.ensures ∙ rw (c.note.ensures, c.get16.ensures, c.get16-2.ensures, e) in
     rw act (takes s side (be16 f 2) (be16 f 4) (drop 6 f) q e t)
