@@ -8,7 +8,7 @@ ghost use Rattle.programs.specs.Reader as Reader;
 ghost use Rattle.answering.specs.Machines.{most_text, answer_to};
 
 // Who answers: the controller in program bench, the reader in program reader.
-#[derive(Drop)]
+#[derive(Clone, Copy)]
 pub enum Machine {
     Controller,
     Reader,
