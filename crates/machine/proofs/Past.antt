@@ -103,7 +103,7 @@ unfolding laid
 laid-past s i n t zero x w = past_refl s
 laid-past s i n t (suc k) x w =
     past_then w (past-put s (slot_at (i % 48)) (slot t n (take 118 x)) (omega (arith, take_most 118 x)) w)
-    (laid-past _ (i + 1) (n + 1) t k (drop 118 x))
+    (laid-past (put s (slot_at (i % 48)) (slot t n (take 118 x))) (i + 1) (n + 1) t k (drop 118 x))
 
 pub queued-past : (s : List ℕ) (t k : ℕ) (x : List ℕ) → t < streams → Whole s → Past (queued_on s t k x) s
 unfolding queued_on

@@ -16,7 +16,6 @@ use borrow.Author.Tests.{eqb-true, eqb-false, lt-ltb}
 use Rattle.wire.specs.Wire.{be16, bytes16, part, put}
 use Rattle.wire.proofs.Runs.{length_part, length-put, get_or-put_inside, be16-put-same}
 use Rattle.paper.specs.Commands.{names}
-use Rattle.paper.specs.Streams.{pieces}
 use Rattle.paper.specs.Packets.{chunks}
 use Rattle.paper.specs.Queue.{Piece, piece, wrap, numbered, after, without}
 use Rattle.paper.specs.Controller.{nothing_open, with_queue, with_streams}

@@ -14,16 +14,14 @@ returns-then-kind-n c f k l on =
 
 pub returns-then-kind-n-2 : goal.returns-then-kind-n-2
 unfolding frame_of
-returns-then-kind-n-2 c f k l on =
-    (
+returns-then-kind-n-2 c f k l on = (
   rw (k, l, c.if-kind-n.false, c.if-kind-n-2.true, on),
   rw l (leb-true _ _ (both (eqb c.args.kind 2) _ c.if-kind-n-2.true).1),
 )
 
 pub returns-then-kind-n-3 : goal.returns-then-kind-n-3
 unfolding frame_of
-returns-then-kind-n-3 c f k l on =
-    (
+returns-then-kind-n-3 c f k l on = (
   rw (
     k,
     l,
@@ -39,8 +37,7 @@ returns-then-kind-n-3 c f k l on =
 
 pub returns-then-kind-n-4 : goal.returns-then-kind-n-4
 unfolding frame_of
-returns-then-kind-n-4 c f k l on =
-    (
+returns-then-kind-n-4 c f k l on = (
   rw (
     k,
     l,
@@ -57,8 +54,7 @@ returns-then-kind-n-4 c f k l on =
 
 pub returns : goal.returns
 unfolding frame_of
-returns c f k l on =
-    (
+returns c f k l on = (
   rw (
     k,
     l,

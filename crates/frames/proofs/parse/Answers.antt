@@ -1,18 +1,11 @@
 -- `frames::parse` meets its contract: once the kind is known the definition computes to its row; the rest is `on_side`'s.
 -- Assumes nothing.
-use mathlib.Core.Path.{◌≡◌, refl, subst}
-use Prim.Native.Nat.{ℕ, ◌≤◌}
+use mathlib.Core.Path.{refl}
+use Prim.Native.Nat.{◌≤◌}
 use borrow.Author.Tests.{eq-eqb, ne_eqb, le-leb}
 use Rattle.paper.specs.Frames.{frame_of}
-use Rattle.frames.specs.Meaning.{SideOf}
-use Rattle.frames.specs.declared.Sided.{Sided}
 use Rattle.frames.proofs.Faulty.{short, off}
-use borrow.Author.Rules.{rules}
 use Rattle.frames.proofs.parse.Goals as goal
-
--- what a channel byte says, by the arm that its side leads to
-told : (cc : ℕ) {r s : Sided} → SideOf cc r → r ≡ s → SideOf cc s
-told cc h e = subst (λ (x : Sided). SideOf cc x) e h
 
 pub returns-then-n-lt2 : goal.returns-then-n-lt2
 returns-then-n-lt2 c =
@@ -55,7 +48,7 @@ on_side-requires c =
 pub returns-in-On : goal.returns-in-On
 returns-in-On c =
     c.on_side.ensures _ refl refl
-    (told _ c.side_of-side.ensures c.side-1.given.1)
+    c.in-On.ensures
 
 pub returns-in-Neither : goal.returns-in-Neither
 returns-in-Neither c = (
@@ -65,6 +58,6 @@ returns-in-Neither c = (
         sample = c.if-kind-eq4.false;
         analogue = c.if-kind-eq7.false;
       })
-      (told _ c.side_of-side.ensures c.enum_told-1.given.1),
+      c.in-Neither.ensures,
   tt,
 )

@@ -6,10 +6,9 @@ use lib.Signed.{lt_z}
 use mir.Syntax.{w16}
 use mir.ValLaws.{to_z-of_z}
 use Rattle.paper.specs.Impact.{above}
-use borrow.Author.Rules.{rules}
 use Rattle.impact.proofs.above.Goals as goal
 
 pub returns : goal.returns
 unfolding above
 returns c =
-    ap (lt_z (pos 80)) (to_z-of_z w16 c.signed.result (record { sfits = c.signed.type-inv }) ∙ c.signed.ensures)
+    ap (lt_z (pos 80)) (to_z-of_z w16 c.signed.result (record { sfits = c.signed.type_inv }) ∙ c.signed.ensures)

@@ -3,7 +3,6 @@
 use mathlib.Core.Path.{refl}
 use native.Mathlib.Omega.{arith}
 use Rattle.impact.proofs.Window.{window_of-moved}
-use borrow.Author.Rules.{rules}
 use Rattle.impact.proofs.compared.Goals as goal
 
 pub returns : goal.returns

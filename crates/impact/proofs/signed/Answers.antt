@@ -9,7 +9,6 @@ use mir.Val.{SFits, to_z}
 use mir.ValLaws.{to_z-of_z}
 use Rattle.paper.specs.Impact.{signed}
 use borrow.Author.Tests.{lt-ltb, le-ltb}
-use borrow.Author.Rules.{rules}
 use Rattle.impact.proofs.signed.Goals as goal
 
 -- a reading's bits, read as an i16, are the reading
@@ -35,4 +34,4 @@ pub returns-else-reading-lt2048 : goal.returns-else-reading-lt2048
 unfolding signed
 returns-else-reading-lt2048 c =
     let x : ℕ = c.args.reading in
-    to_z-of_z w16 _ (sub-result c) ∙ rw (same x c.requires, le-ltb x 2048 c.if-reading-lt2048.false)
+    to_z-of_z w16 _ (overflow_sub-result c) ∙ rw (same x c.requires, le-ltb x 2048 c.if-reading-lt2048.false)

@@ -3,12 +3,9 @@
 use borrow.Author.Rules.{rules}
 use Rattle.paper.specs.Commands.{outside}
 use Rattle.command.proofs.Mask.{common_and}
-use Rattle.command.proofs.outside.Statement.{statement}
-use Rattle.command.proofs.outside.Tie as tie
+use Rattle.command.proofs.outside.Goals as goal
 
-returns : tie.Need-returns
+pub returns : goal.returns
 unfolding outside
-returns c = common_and c.args.mask _ 16 (search rules)
-
-pub outside-spec : {M : Type 1} → statement M
-outside-spec = tie.close (tie.spec returns)
+returns c =
+    common_and c.args.mask _ 16 (search rules)
