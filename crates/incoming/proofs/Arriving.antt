@@ -16,9 +16,3 @@ pub feed-fed : (n : ℕ) (z : ℤ) (s : List ℕ) → lt_z (pos 0) z ≡ false �
     → take 1 (set s 0 10) ≡ fed n (brought z s)
 feed-fed n z [] e f h k = absurd (omega arith)
 feed-fed n z (x ∷ s) e f h k = rw (the_end_lem z (x ∷ s) e f, ne_eqb n 0 h)
-
--- there may be more just where bytes came
-pub brings-more : (z : ℤ) (s : List ℕ) → lt_z (pos 0) z ≡ brings (brought z s)
-brings-more (pos zero) s = refl
-brings-more (pos (suc k)) s = lt-ltb 0 (suc k) (omega arith)
-brings-more (negsuc k) s = refl
