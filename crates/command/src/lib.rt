@@ -9,7 +9,7 @@ ghost use Rattle.command.specs.Meaning.{meant, Decodes};
 use streams::NOT_CARRIED;
 
 // A request with its fields: streams to clear, or the mode with its lock to set.
-#[derive(Drop)]
+#[derive(Clone, Copy)]
 pub enum Request {
     Clear(u16),
     Housekeeping,
@@ -17,7 +17,7 @@ pub enum Request {
 }
 
 // What a command comes to: a request to act on, or a refusal's number.
-#[derive(Drop)]
+#[derive(Clone, Copy)]
 pub enum Decoded {
     Act(Request),
     Refuse(u8),

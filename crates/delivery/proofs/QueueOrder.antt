@@ -43,6 +43,7 @@ pub arrived-append : (s : ℕ) (ys zs : List Arrival) → arrived s (ys ++ zs) �
 arrived-append s ys zs = ap (map (λ p. p.number)) (own-append s ys zs) ∙ map-append (λ (p : Polled). p.number) (own_of s ys) (own_of s zs)
 
 in_left : (n : ℕ) (ms ks : List ℕ) → In n ms → In n (ms ++ ks)
+in_left n [] ks h = absurd h
 in_left n (m ∷ ms) ks (inl h) = inl h
 in_left n (m ∷ ms) ks (inr h) = inr (in_left n ms ks h)
 
@@ -102,11 +103,13 @@ Orderly pre q (own p ∷ ys) =
 
 sub_split : (p : Polled) (ps : List Polled) (q : List (Piece (List ℕ))) → Sub (p ∷ ps) q
     → (X : List (Piece (List ℕ))) × (z : Piece (List ℕ)) × (Y : List (Piece (List ℕ))) × Next p q X z Y × Sub ps (z ∷ Y)
+sub_split p ps [] h = absurd h
 sub_split p ps (z ∷ q) (inl h) = ([], z, q, (refl, h.0, h.1), h.2)
 sub_split p ps (z ∷ q) (inr h) =
     let r = sub_split p ps q h in (z ∷ r.0, r.1, r.2, (ap (λ l. z ∷ l) r.3.0, r.3.1, r.3.2), r.4)
 
 sub_tail : (p : Polled) (ps : List Polled) (q : List (Piece (List ℕ))) → Sub (p ∷ ps) q → Sub ps q
+sub_tail p ps [] h = absurd h
 sub_tail p ps (z ∷ q) (inl h) = h.2
 sub_tail p ps (z ∷ q) (inr h) = sub_skip z ps q (sub_tail p ps q h)
 

@@ -53,6 +53,7 @@ among_in n (m ∷ ms) h = at (eqb n m) refl h (λ k. among_in n ms k)
     at false e k ih = inr (ih k)
 
 pub in_among : (n : ℕ) (ms : List ℕ) → In n ms → among n ms ≡ true
+in_among n [] h = absurd h
 in_among n (m ∷ ms) (inl h) = rw (eq-eqb n m h)
 in_among n (m ∷ ms) (inr h) = at (eqb n m) (in_among n ms h)
   where

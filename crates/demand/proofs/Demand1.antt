@@ -36,7 +36,7 @@ use Rattle.lent.proofs.Fitting.{fitting_true, other_mark}
 use Rattle.shelf.proofs.Steps.{received-view}
 use Rattle.shelf.proofs.Leaves.{later_bytes, output_past, moved_on_lem}
 use Rattle.shelf.proofs.Runs.{never_25}
-use Rattle.demand.specs.Refusing.{found, Starts, Apart, Demand1}
+use Rattle.demand.specs.Refusing.{found, Starts, Demand1}
 
 -- ---- the controller
 

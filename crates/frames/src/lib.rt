@@ -5,14 +5,14 @@ ghost use Rattle.std.specs.Prelude.{◌≡◌};
 ghost use Rattle.paper.specs.Frames.{frame_of};
 ghost use Rattle.frames.specs.Meaning.{meant, Sized, SideOf, Channelled, OnSide};
 
-#[derive(Drop)]
+#[derive(Clone, Copy)]
 pub enum Side {
     A,
     B,
 }
 
 // A frame's numbers stay in its bytes; the kind says where they stand.
-#[derive(Drop)]
+#[derive(Clone, Copy)]
 pub enum Kind {
     Broadcast(Side),
     Command(Side),
@@ -24,7 +24,7 @@ pub enum Kind {
     Faulty,
 }
 
-#[derive(Drop)]
+#[derive(Clone, Copy)]
 pub enum Sided {
     On(Side),
     Neither,

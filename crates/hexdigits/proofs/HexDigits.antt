@@ -1,20 +1,15 @@
 -- Laws of digits and bytes that this crate's proofs, and a caller's, cite. Assumes nothing.
 use mathlib.Core.Path.{◌≡◌, refl, sym, ap, ◌∙◌}
-use mathlib.Core.Bool.{Bool, true, false, cond, ◌&&◌}
+use mathlib.Core.Bool.{Bool, true, false, cond}
 use mathlib.Core.List.{List, [], ◌∷◌, ◌++◌, append_assoc, append-nil}
 use Prim.Native.Nat.{ℕ, suc, ◌+◌, ◌*◌, ◌/◌, ◌%◌, ◌≤◌, ◌<◌}
 use native.Mathlib.Numerals.{add-one}
 use native.Mathlib.Omega.{arith}
-use lib.Dec.{leb, ltb}
+use lib.Dec.{ltb}
 use lib.ListN.{length, take, drop, get_or, set, length-set, drop_of_length-le}
 use lib.Seq.{drop-cons, take-suc-set}
-use borrow.Author.Tests.{lt-ltb, le-ltb, leb-true}
-use Rattle.wire.proofs.Both.{both}
+use borrow.Author.Tests.{lt-ltb, le-ltb}
 use Rattle.lines.specs.Hex.{Read, bytes, faulty_text, front, bytes_in_front, pair, read_hex, value_of, hex_of, digit_of}
-
--- a character within two bounds
-pub at_least : (a c b : ℕ) → (leb a c && leb c b) ≡ true → a ≤ c
-at_least a c b e = leb-true a c (both (leb a c) (leb c b) e).0
 
 -- one element stored at n, and the count raised
 pub stored : (l : List ℕ) (n x : ℕ) → n < length l → take (n + 1) (set l n x) ≡ take n l ++ (x ∷ [])

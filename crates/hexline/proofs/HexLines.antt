@@ -1,7 +1,7 @@
 -- Laws of lines that this crate's proofs, and a caller's, cite. Assumes nothing.
 use mathlib.Core.Path.{◌≡◌, refl, sym, ap, ◌∙◌}
 use mathlib.Core.Bool.{Bool, true, false, cond, ◌&&◌}
-use mathlib.Core.List.{List, []}
+use mathlib.Core.List.{List}
 use Prim.Native.Nat.{ℕ, ◌+◌, ◌≤◌, ◌<◌}
 use native.Mathlib.Numerals.{add-one}
 use native.Mathlib.Omega.{arith}
@@ -10,17 +10,8 @@ use lib.ListN.{length, take, drop, get_or, set, drop_of_length-le}
 use lib.Seq.{drop-cons, length-take-le}
 use borrow.Author.Tests.{lt-ltb, le-ltb, le-leb, lt-leb, eq-eqb, ne_eqb, leb-true, ltb-true, ltb-false}
 use Rattle.wire.proofs.Both.{both}
-use Rattle.lines.specs.Hex.{bytes, faulty_text, read_hex}
-use Rattle.lines.specs.Lines.{LineSoFar, kept, over, more, line_of, line_ended, partly, scan, bytes_or, frame_of_line}
+use Rattle.lines.specs.Lines.{LineSoFar, kept, over, more, line_of, line_ended, partly, scan}
 use Rattle.hexdigits.proofs.HexDigits.{stored}
-
--- a scan that went on from i got past where it began before i
-pub onward_by : (from i size at : ℕ) → from ≤ i → i ≤ at → (i < size → i < at) → from < size → from < at
-onward_by from i size at a b c d = by (ltb i size) refl
-  where
-    by : (x : Bool) → ltb i size ≡ x → from < at
-    by true p = omega (arith, c (ltb-true i size p))
-    by false p = omega (arith, ltb-false i size p)
 
 module _ (longest : ℕ) where
   -- the loop that gathers goes on: there is a character, and room for it
@@ -74,15 +65,3 @@ module _ (longest : ℕ) where
           let d : k ≤ length line = omega (arith, leb-true k longest p) in
           rw (length-take-le k line d, le-ltb k longest h)
       by false p = refl
-
-  -- a line whose text stands for bytes
-  pub frame-bytes : (n k : ℕ) (line out : List ℕ) → n ≤ longest → bytes (take k out) ≡ read_hex (take n line) → take k out ≡ frame_of_line (line_of longest n line)
-  frame-bytes n k line out h e = rw (le-leb n longest h) (ap bytes_or e)
-
-  -- one whose text stands for none
-  pub frame-faulty : (n : ℕ) (line : List ℕ) → n ≤ longest → faulty_text ≡ read_hex (take n line) → [] ≡ frame_of_line (line_of longest n line)
-  frame-faulty n line h e = rw (le-leb n longest h) (ap bytes_or e)
-
-  -- one that is too long
-  pub frame-over : (n : ℕ) (line : List ℕ) → longest < n → [] ≡ frame_of_line (line_of longest n line)
-  frame-over n line h = rw (lt-leb n longest h)

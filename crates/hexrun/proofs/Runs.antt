@@ -66,11 +66,6 @@ reading-more from n m chunk frame frame' o r h k e f =
       read = ap read_hex split ∙ read_behind l t (take n frame) r.read ∙ ap (bytes_in_front (take n frame)) e ∙ ap bytes (sym f);
     }
 
--- the frame changed past what is read
-pub reading-same : (from n : ℕ) (chunk frame frame' : List ℕ) → Reading from n chunk frame → n ≤ length frame' → take n frame' ≡ take n frame → Reading from n chunk frame'
-reading-same from n chunk frame frame' r h e =
-    record { within = r.within; short = h; read = r.read ∙ ap bytes (sym e) }
-
 -- a pair of digits
 read-pair : (s : List ℕ) (i h l : ℕ) → i + 1 < length s → h ≡ value_of (get_or s i 0) → l ≡ value_of (get_or s (i + 1) 0) → h < 16 → l < 16
     → read_hex (take 2 (drop i s)) ≡ bytes ((h * 16 + l) ∷ [])

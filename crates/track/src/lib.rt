@@ -7,7 +7,7 @@ ghost use Rattle.paper.specs.Reader as paper;
 ghost use Rattle.track.specs.Moves.{InRange, Right};
 
 // What the reader keeps of a stream, besides the gathered pieces.
-#[derive(Drop)]
+#[derive(Clone, Copy)]
 pub struct Track {
     pub last: u16,
     pub place: u8,

@@ -7,6 +7,7 @@ ghost use Rattle.programs.specs.Bench as Bench;
 ghost use Rattle.programs.specs.Reader as Reader;
 
 // How many bytes a frame that got that reply wrote.
+#[tactic(auto, unfolding(programs::specs::Bench::bytes_written))]
 pub fn bytes_written(reply: u8, f: &[u8]) -> usize
     ensures upper_bound { result ≤ 126 }
     ensures value { result ≡ Bench.bytes_written reply f.now }
@@ -40,6 +41,7 @@ pub fn put_line(reply: u8, bytes: &[u8], out: &mut [u8], used: usize) -> usize
 }
 
 // How many bytes are handed out with that reply to a packet: the listed length of its stream, or none.
+#[tactic(auto, unfolding(programs::specs::Reader::handed))]
 pub fn handed(reply: u8, f: &[u8]) -> usize
     requires { reply ≡ 1 → length f.now ≡ 126 }
     ensures upper_bound { result ≤ 776 }

@@ -1,0 +1,15 @@
+-- `hexrun::first` meets its contract. The invariant is what it promises of the bytes so far; the measure is what is left of eight.
+-- Assumes nothing.
+use Prim.Native.Nat.{◌-◌}
+use mathlib.Core.Path.{◌≡◌}
+use lib.ListN.{length}
+use Rattle.hexrun.specs.Reading.{Reading}
+use Rattle.hexrun.proofs.first.Given as goal
+
+abbrev pub invariant-loop-n : goal.invariant-loop-n
+invariant-loop-n l =
+    (Reading l.from l.n l.chunk l.frame) × (length l.frame ≡ length l.initial.frame)
+
+abbrev pub decreases-loop-n : goal.decreases-loop-n
+decreases-loop-n l =
+    8 - l.n
