@@ -30,6 +30,7 @@ pub fn seconds_of(ssp: u32) -> u16
 }
 
 // The count of ticks after one more: it stays at 1023.
+#[tactic(auto, unfolding(paper::specs::Clock::ticked))]
 pub fn ticked(m: u16) -> u16
     ensures { (result ≡ Clock.ticked m) × (result ≤ 1023) }
 {

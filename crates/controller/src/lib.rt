@@ -12,6 +12,9 @@ ghost use Rattle.machine.specs.Called.{replied_on, step_of, start_of};
 use frames::Kind;
 use state::{BYTES, HOUSED, MARK};
 
+// A packet's bytes, for which an output has to have room.
+const PACKET_BYTES: usize = 126;
+
 // Bytes for a fresh controller: 0, or 10 where they are too few.
 pub fn start(s: &mut [u8]) -> u8
     ensures { told result s.new ≡ start_of s.old }
@@ -63,7 +66,7 @@ pub fn frame(s: &mut [u8], f: &[u8], out: &mut [u8]) -> u8
     if !lent::fits(s, BYTES, MARK) {
         return 10;
     }
-    if out.len() < 126 {
+    if out.len() < PACKET_BYTES {
         return 8;
     }
     handle(frames::parse(f), s, f, out)

@@ -31,6 +31,7 @@ pub enum Sided {
 }
 
 // The side of a channel byte.
+#[tactic(auto, unfolding(paper::specs::Frames::on_channel))]
 fn side_of(cc: u8) -> Sided
     ensures { SideOf cc result }
 {

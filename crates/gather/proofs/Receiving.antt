@@ -10,7 +10,6 @@ use lib.Dec.{eqb}
 use lib.ListN.{length, get_or, drop}
 use borrow.Author.Tests.{eqb-true, eqb-false, ltb-true, lt-ltb, le-ltb}
 use Rattle.wire.specs.Wire.{be16, put}
-use Rattle.wire.proofs.Runs.{length-put}
 use Rattle.paper.specs.Streams.{pieces, carried}
 use Rattle.paper.specs.Status.{bit}
 use Rattle.paper.specs.Reader.{distance, placed, packet, well_formed, packet_of, understood, reader_step}
@@ -22,7 +21,7 @@ use Rattle.track.specs.declared.Move.TheVariants.{Repeat, Dropped, Kept, Finishe
 use Rattle.track.specs.Moves.{InRange, Right}
 use Rattle.track.proofs.RightMoves.{right_repeat, right_dropped, right_kept, right_finished}
 use Rattle.track.proofs.Only.{only}
-use Rattle.shelf.specs.Layout.{reader_mark, place_at, piece_at, streams, reader_bytes}
+use Rattle.shelf.specs.Layout.{reader_mark, place_at, piece_at, reader_bytes}
 use Rattle.shelf.specs.View.{last_in, place_in, runs_in}
 use Rattle.shelf.specs.Range.{Fit, fit}
 use Rattle.shelf.specs.Received.{recorded_on, gathers_on, understood_on, received_on, understood_to, hands_to, read_of}
@@ -31,11 +30,6 @@ use Rattle.shelf.proofs.Packets.{long-enough}
 use Rattle.shelf.proofs.Formed.{gathers_to, moves_to, arrives_to, arrived_formed}
 
 -- ---- the stores of a move
-
--- the bytes are as long with a body stored
-pub kept_whole : (s y x : List ℕ) (t place : ℕ) → y ≡ put s (piece_at t place) x → reader_bytes ≤ length s → t < streams → place < 7
-    → length x ≡ 118 → reader_bytes ≤ length y
-kept_whole s y x t place e w l k h = omega (arith, ap length e ∙ length-put s (piece_at t place) x (omega arith))
 
 module _ (s : List ℕ) (t : ℕ) (c : carried t ≡ true) (count : ℕ) (small : count < 4096) where
   -- the record that the bytes hold

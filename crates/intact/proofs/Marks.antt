@@ -27,9 +27,6 @@ one_more s i to h l =
     let n : to - i ≡ suc (to - (i + 1)) = omega arith in
     ap₂ (λ (k : ℕ) (r : List ℕ). all99 (take k r)) n (drop-cons s i 0 (omega arith) ∙ ap (λ (k : ℕ). get_or s i 0 ∷ drop k s) (sym (add-one i)))
 
-pub none_left : (s : List ℕ) (i to : ℕ) → to ≤ i → all99 (part s i (to - i)) ≡ true
-none_left s i to h = let n : to - i ≡ 0 = omega arith in rw n
-
 -- ---- a packet's marks
 
 -- opening and closing of a packet of n bytes that stands at an offset, as code tests them

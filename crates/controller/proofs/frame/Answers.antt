@@ -18,14 +18,14 @@ unfolding step_of
 returns-then-not-fits c =
     rw (sym c.fits.ensures ∙ c.if-not-fits.true)
 
-pub returns-then-out-lt126 : goal.returns-then-out-lt126
+pub returns-then-out-lt-PACKET_BYTES : goal.returns-then-out-lt-PACKET_BYTES
 unfolding step_of replied_on told_on left_on reply
-returns-then-out-lt126 c =
-    rw (sym c.fits.ensures ∙ c.if-not-fits.false, lt-ltb _ _ c.if-out-lt126.true) (ap (λ (l : List ℕ). res 8 c.args.out.now l) (short-stays c.args.s.now (frame_of c.args.f.now)))
+returns-then-out-lt-PACKET_BYTES c =
+    rw (sym c.fits.ensures ∙ c.if-not-fits.false, lt-ltb _ _ c.if-out-lt-PACKET_BYTES.true) (ap (λ (l : List ℕ). res 8 c.args.out.now l) (short-stays c.args.s.now (frame_of c.args.f.now)))
 
 pub handle-requires : goal.handle-requires
 handle-requires c =
-    ((fitting_true state_bytes controller_mark c.args.s.now (sym c.fits.ensures ∙ c.if-not-fits.false)).whole, c.parse.ensures.1, c.if-out-lt126.false)
+    ((fitting_true state_bytes controller_mark c.args.s.now (sym c.fits.ensures ∙ c.if-not-fits.false)).whole, c.parse.ensures.1, c.if-out-lt-PACKET_BYTES.false)
 
 pub returns : goal.returns
 unfolding step_of

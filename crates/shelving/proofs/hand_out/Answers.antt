@@ -17,4 +17,5 @@ gather_at-requires c =
 pub returns : goal.returns
 unfolding hands_to
 returns c =
-    rw (sym c.sound.ensures ∙ c.if-not-sound.false, c.copy_part.ensures, c.size16-n.ensures.0, c.listed.ensures.0, c.gather_at.ensures.0)
+    rw (sym c.sound.ensures ∙ c.if-not-sound.false, c.copy_part.ensures)
+    (simp (c.size16-n.ensures.0, c.listed.ensures.0, c.gather_at.ensures.0))
