@@ -94,21 +94,3 @@ reached_more m n line state line' state' (input i) w r s e o =
     record { all = r.all ++ i; line_is = s.line_left whole ∙ g.0; state_is = s.state_left whole ∙ g.1 }
 reached_more m n line state line' state' the_end w r s e o = absurd (nothing w.whole (sym e ∙ o))
 reached_more m n line state line' state' failed w r s e o = absurd (nothing w.whole (sym e ∙ o))
-
--- the end: nothing more is read, and all is said
-pub ran : (m : Machine) (n : ℕ) (line state line' state' : List ℕ) (b : Brought) (w : Work) → Reached m n line state
-    → Served (comes m b (line_of longest n line) state) line' state' w → w.on ≡ (w.whole && brings b) → w.on ≡ false → w.whole ≡ true
-    → Ran m state'
-ran m n line state line' state' b w r s e o h =
-    record {
-      all = r.all;
-      end = b;
-      over = sym (ap (λ (x : Bool). x && brings b) h) ∙ sym e ∙ o;
-      left = s.state_left h
-          ∙ ap (λ (l : LineSoFar). (comes m b l state).state) r.line_is
-          ∙ ap (λ (x : List ℕ). (comes m b (after m r.all).line x).state) r.state_is;
-    }
-
--- so many reads that no run has them
-pub ran_out : (m : Machine) (n : ℕ) (line state : List ℕ) → Reached m n line state → Ran m state
-ran_out m n line state r = record { all = r.all; end = failed; over = refl; left = r.state_is }

@@ -13,11 +13,20 @@ ghost use Rattle.saying.specs.Served.{Room, Served};
 ghost use Rattle.dialogue.specs.Loop.{comes, Ran};
 
 use answering::Machine;
-use libc::{STDERR_FILENO, STDIN_FILENO};
-use saying::Work;
+use saying::{Streams, Work};
+use std::io::{Read, Stdin};
+
+// One read: how many bytes it brought to the start of the chunk, and -1 where it failed or was interrupted.
+fn read(mut input: Stdin, chunk: &mut [u8]) -> isize {
+    match input.read(chunk) {
+        Ok(got) => got as isize,
+        Err(_) => -1,
+    }
+}
 
 // Answers what a read brought: `got` is its answer, and the chunk what it left there.
 fn heard(
+    streams: Streams,
     machine: Machine,
     got: isize,
     n: usize,
@@ -32,7 +41,7 @@ fn heard(
     ensures on_value { result.on ≡ (result.whole && brings (brought got chunk.old)) }
 {
     let k = incoming::input_of(got, n, chunk);
-    let w = saying::answer_all(machine, &chunk[..k], n, line, frame, state, out);
+    let w = saying::answer_all(streams, machine, &chunk[..k], n, line, frame, state, out);
     let m = w.n;
     let said = w.said;
     let whole = w.whole;
@@ -47,6 +56,7 @@ fn heard(
 // Serves standard input to its end, and answers whether the output took all that there was to say.
 // A proved loop has to end, and nothing says that the input does: so it counts its turns down from a number that no run uses up.
 pub fn run(
+    streams: Streams,
     machine: Machine,
     chunk: &mut [u8],
     line: &mut [u8],
@@ -60,11 +70,11 @@ pub fn run(
     let mut turns = u64::MAX;
     let mut n = 0;
     while turns > 0 {
-        let got = libc::read(STDIN_FILENO, chunk);
-        let w = heard(machine, got, n, chunk, line, frame, state, out);
+        let got = read(streams.input, chunk);
+        let w = heard(streams, machine, got, n, chunk, line, frame, state, out);
         if !w.on {
             if got < 0 {
-                io::write_all(STDERR_FILENO, b"standard input cannot be read\n");
+                saying::write_all(&streams.errors, b"standard input cannot be read\n");
             }
             return w.whole;
         }

@@ -2,6 +2,12 @@
 // the frames, and stdout what document 01 answers to them.
 #![tactic(auto)]
 
-fn main() {
-    console::serve_controller();
+use console::Streams;
+
+fn main(rt: HostRuntime) {
+    console::serve_controller(Streams {
+        input: rt.stdin(),
+        output: rt.stdout(),
+        errors: rt.stderr(),
+    });
 }

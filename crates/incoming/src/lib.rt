@@ -11,7 +11,7 @@ pub fn input_of(got: isize, n: usize, chunk: &mut [u8]) -> usize
     ensures chunk_after { take result chunk.new ≡ fed n (brought got chunk.old) }
 {
     if got > 0 {
-        return io::count(got, chunk);
+        return chunk.len().min(got as usize);
     }
     if got < 0 {
         return 0;

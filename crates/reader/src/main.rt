@@ -7,11 +7,20 @@
 // without an LF.
 #![tactic(auto)]
 
-fn main() {
+use console::Streams;
+
+fn main(rt: HostRuntime) {
+    let streams = Streams {
+        input: rt.stdin(),
+        output: rt.stdout(),
+        errors: rt.stderr(),
+    };
     if console::explained(
+        &rt,
+        streams,
         b"usage: reader <PACKETS\nreader takes no arguments: it reads packets from standard input, a line each in hexadecimal.\n",
     ) {
         return;
     }
-    console::serve_reader();
+    console::serve_reader(streams);
 }

@@ -12,7 +12,15 @@ ghost use Rattle.answering.specs.Machines.{answer_to};
 ghost use Rattle.saying.specs.Served.{Room, Served};
 
 use answering::Machine;
-use libc::{STDERR_FILENO, STDOUT_FILENO};
+use std::io::{Print, Stderr, Stdin, Stdout};
+
+// The standard streams of a program.
+#[derive(Clone, Copy)]
+pub struct Streams {
+    pub input: Stdin,
+    pub output: Stdout,
+    pub errors: Stderr,
+}
 
 // What came of a chunk: the count of the line still open, how many bytes of text the output took, whether that was all of it, and
 // whether to read on.
@@ -24,19 +32,32 @@ pub struct Work {
     pub on: bool,
 }
 
+// Writes all of a text, and answers whether it was taken: it stops at the first write that takes nothing, fails or is interrupted.
+pub fn write_all(to: &impl Print, text: &[u8]) -> bool {
+    let mut done = 0;
+    while done < text.len() {
+        match to.write_some(&text[done..]) {
+            Ok(n) if n > 0 => done += n,
+            _ => return false,
+        }
+    }
+    true
+}
+
 // Writes a text, and answers how many of its bytes the output took: all, or else there is a message.
-fn say(text: &[u8]) -> usize
+fn say(streams: Streams, text: &[u8]) -> usize
     ensures { result ≤ length text.now }
 {
-    if io::write_all(STDOUT_FILENO, text) {
+    if write_all(&streams.output, text) {
         return text.len();
     }
-    io::write_all(STDERR_FILENO, b"standard output cannot be written\n");
+    write_all(&streams.errors, b"standard output cannot be written\n");
     0
 }
 
 // Answers the lines of a chunk, and writes the answers: whenever `out` is full, and at the end.
 pub fn answer_all(
+    streams: Streams,
     machine: Machine,
     chunk: &[u8],
     n: usize,
@@ -57,7 +78,7 @@ pub fn answer_all(
         at = t.at;
         k = t.n;
         let used = t.used;
-        let took = say(&out[..used]);
+        let took = say(streams, &out[..used]);
         said += took;
         if took < used {
             return Work {
