@@ -15,6 +15,6 @@ loop-turns-preserved c =
     let l = c.loop-turns in
     let g = c.heard-w in
     record {
-      small = g.ensures.served.small;
+      small = omega arith;
       reached = reached_more c.args.machine l.n l.line l.state g.new.line g.new.state (brought (to_z w64 (of_z w64 c.read-got.result)) c.read-got.new.chunk) g.result l.invariant.reached g.ensures.served g.ensures.on_value (not-false _ c.if-not-w.false);
     }
