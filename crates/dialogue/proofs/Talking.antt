@@ -17,7 +17,7 @@ use Rattle.answering.specs.declared.Machine.{Machine}
 use Rattle.incoming.specs.Brought.{Brought, input, the_end, failed, brings, fed}
 use Rattle.saying.specs.Served.{Served}
 use Rattle.saying.specs.declared.Work.{Work}
-use Rattle.dialogue.specs.Loop.{comes, after, Ran}
+use Rattle.dialogue.specs.Loop.{comes, after}
 
 module _ (a : Way) where
   -- more input goes on with the line and the state that are left, whatever was written

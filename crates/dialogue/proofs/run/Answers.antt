@@ -1,7 +1,7 @@
 -- `dialogue::run` meets its contract. Assumes nothing.
 use Rattle.std.proofs.Common.{arith, to_z, of_z}
 use mir.Syntax.{w64}
-use borrow.Author.Tests.{not-true, not-false}
+use borrow.Author.Tests.{not-false}
 use Rattle.incoming.specs.Brought.{brought}
 use Rattle.dialogue.proofs.Talking.{reached_none, reached_more}
 use Rattle.dialogue.proofs.run.Goals as goal

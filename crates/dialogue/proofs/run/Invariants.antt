@@ -1,5 +1,5 @@
 -- The loop of `dialogue::run`: the line open and the state are those that the reads so far leave. The measure is the number of turns left.
-use Rattle.std.proofs.Common.{ℕ, ◌+◌, ◌≤◌}
+use Rattle.std.proofs.Common.{◌+◌, ◌≤◌}
 use Rattle.programs.specs.Programs.{longest}
 use Rattle.dialogue.proofs.Talking.{Reached}
 use Rattle.dialogue.proofs.run.Given as goal

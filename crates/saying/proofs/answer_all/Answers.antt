@@ -1,5 +1,5 @@
 -- `saying::answer_all` meets its contract. Assumes nothing.
-use Rattle.std.proofs.Common.{◌≡◌, refl, sym, ap, ◌∙◌, ◌<◌, ◌+◌, ◌*◌, List, [], ◌++◌, ℕ, length, length-append, take, drop, true, false, arith}
+use Rattle.std.proofs.Common.{◌≡◌, sym, ap, ◌∙◌, ◌<◌, ◌*◌, List, [], ◌++◌, ℕ, length, length-append, take, drop, arith}
 use Rattle.std.proofs.Math.ListN.{drop_of_length-le}
 use Rattle.std.proofs.Math.Seq.{length-take-le}
 use Rattle.lines.specs.Lines.{line_of}

@@ -1,6 +1,6 @@
 -- The loop of `saying::answer_all`: the output took a text of that many bytes, and what is still to come behind it is what was to
 -- come of the chunk. The measure is what is left of the chunk.
-use Rattle.std.proofs.Common.{ℕ, ◌≤◌, ◌-◌, ◌+◌, ◌*◌, [], length}
+use Rattle.std.proofs.Common.{◌≤◌, ◌-◌, ◌+◌, ◌*◌, [], length}
 use Rattle.lines.specs.Lines.{line_of}
 use Rattle.lines.specs.Talk.{talk}
 use Rattle.programs.specs.Programs.{longest}
