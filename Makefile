@@ -1,13 +1,13 @@
 # Everything the bureau holds in its hands. Programs and library are for x86-64; elsewhere they run under Debian's qemu-user.
 #   make            prove everything, build the library and the programs
 #   make demo       what there is to see, in plain words
-#   make test       the gate: proves everything from nothing, tries every edit that must be refused, runs programs and host tests
+#   make test       the gate: proves every crate, tries every edit that must be refused, runs programs and host tests
 #   make host       the host tests alone
 #   make soak       a longer comparison of library and model (ROUNDS=20)
 #   make measure    instructions and stack against the C model and programs of it; writes docs/MEASURED.md
 #   make install    library, headers, pkg-config file, programs and man pages (PREFIX=/usr/local, DESTDIR=)
 #   make uninstall  removes what install put there (the same PREFIX and DESTDIR)
-#   make clean      removes target/, where all that is built stands, and nothing else
+#   make clean      removes target/ and each crate's out/, where all that is built stands, and nothing else
 #   make help       these lines
 # All but demo's first part, uninstall, clean and help need the Rattle kit, rt on the path.
 PREFIX = /usr/local
@@ -46,7 +46,7 @@ uninstall:
 	@host/scripts/uninstall
 
 clean:
-	rm -rf target
+	rm -rf target crates/*/out
 
 help:
 	@sed -n 's/^#   //p' Makefile

@@ -17,7 +17,7 @@ crates_of() {
             n = split(needs[name], word, " ")
             for (i = 1; i <= n; i++) want(word[i])
         }
-        /^[^#:]+:/ { name = $0; sub(/:.*/, "", name); needs[name] = substr($0, length(name) + 2); listed++ }
+        /^[^#:]+:/ { name = $1; sub(/:$/, "", name); line = $0; sub(/^[^:]*:/, "", line); needs[name] = line; listed++ }
         END {
             n = split(names, word, " ")
             for (i = 1; i <= n; i++) want(word[i])
@@ -25,26 +25,37 @@ crates_of() {
         }' crates.txt
 }
 
-# proving WORDS...: runs rt with them, shows a line for each crate as it is done, and where it fails the end of all it printed.
-# The lines are read one by one, so that they are seen at once in a pipe too.
-proving() {
-    local line all seen=0 anew=0 began=$SECONDS last=target/proving.last
+# shown COMMAND...: runs rt, shows a line for each crate as it is proved, and where it fails the end of all that it printed.
+# The lines are read one by one, so that they are seen at once in a pipe too. One that names a crate comes before its verdict.
+shown() {
+    local line crate=
     mkdir -p target
-    all=$(crates_of "${@:2}")
-    echo "  $all crates; those unchanged since they were proved are not proved again. From nothing it is five to ten minutes on two cores$(
-        [ ! -s $last ] || printf ' (the last time here: %s)' "$(cat $last)")."
-    rt "$@" 2>&1 | tee target/proving.log | {
+    "$@" 2>&1 </dev/null | tee target/proving.log | {
         while IFS= read -r line; do
             case $line in
-                'rt: '*' proved ('*)
-                    seen=$((seen + 1))
-                    case $line in *'(unchanged'*) ;; *) anew=$((anew + 1)) ;; esac
-                    printf '  %2d of %d: %s\n' $seen "$all" "${line#rt: }" ;;
-                'rt: '*) printf '  %s\n' "${line#rt: }" ;;
+                'crate '*': modules'*) crate=${line#crate }; crate=${crate%%:*} ;;
+                'logic=proved functions='*)
+                    line=${line#logic=proved functions=}
+                    printf '  %s: %d functions\n' "$crate" "${line%% *}" ;;
             esac
         done
-        # How long it took is worth keeping only where there was something to prove.
-        [ "$1" = staticlib ] || [ $anew -eq 0 ] || echo "$((SECONDS - began)) s for $anew crates" >$last
     }
-    [ "${PIPESTATUS[0]}" -eq 0 ] || { tail -n 30 target/proving.log; echo "failed: rt $*"; return 1; }
+    [ "${PIPESTATUS[0]}" -eq 0 ] || { tail -n 30 target/proving.log; echo "failed: ${*##*/}"; return 1; }
+}
+
+# proving NAME...: proves these crates with all that they need, and puts what is made of each where the tests and the installation
+# look for it: the C library of ssp into target/staticlib, a program into target/bin.
+proving() {
+    local name
+    echo "  $(crates_of "$@") crates; those unchanged since they were proved are not proved again. From nothing it is ten to twenty minutes on two cores."
+    for name in "$@"; do
+        case $name in
+            ssp)
+                mkdir -p target/staticlib
+                shown env -C crates/ssp rt lib && cp crates/ssp/out/libssp.a target/staticlib/ || return 1 ;;
+            *)
+                mkdir -p target/bin
+                shown env -C "crates/$name" rt run && cp "crates/$name/out/$name" target/bin/ || return 1 ;;
+        esac
+    done
 }
