@@ -2,8 +2,8 @@
 use Rattle.std.proofs.Common.{◌≡◌, refl, false, List, [], ◌∷◌, ℕ, zero, suc, ◌≤◌, arith, ℤ, pos, negsuc, length, take}
 use lib.ListN.{set}
 use lib.Signed.{lt_z}
-use borrow.Author.Tests.{ne_eqb, lt-ltb, ltb-false}
-use Rattle.incoming.specs.Brought.{brought, the_end, brings, fed}
+use borrow.Author.Tests.{ne_eqb, ltb-false}
+use Rattle.incoming.specs.Brought.{brought, the_end, fed}
 
 -- the end of the input
 the_end_lem : (z : ℤ) (s : List ℕ) → lt_z (pos 0) z ≡ false → lt_z z (pos 0) ≡ false → brought z s ≡ the_end
