@@ -1,7 +1,7 @@
 #!/usr/bin/env python3
 """Brings the names of the repository's own definitions, lemmas, fields and constructors to the spelling of today's Rattle.
 
-usage: python3 tools/respell.py [--table]     at the top of the repository, once, right after /opt/rattle/port/port.py
+usage: python3 tools/respell.py [--table]     at the top of the repository, once, right after the kit's port.py
 
 A word is in snake case; types and facts keep their capitals; a dash stays only between two names, as in length-put. Files of crates/
 turn: .antt whole, of .rt files the clauses and what 'ghost use' brings, .edit files where they quote either; a comment's words in

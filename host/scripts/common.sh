@@ -44,15 +44,15 @@ shown() {
 }
 
 # proving NAME...: proves these crates with all that they need, and puts what is made of each where the tests and the installation
-# look for it: the C library of ssp into target/staticlib, a program into target/bin.
+# look for it: the C library of ssp_c, as libssp.a, into target/staticlib, a program into target/bin.
 proving() {
     local name
     echo "  $(crates_of "$@") crates; those unchanged since they were proved are not proved again. From nothing it is ten to twenty minutes on two cores."
     for name in "$@"; do
         case $name in
-            ssp)
+            ssp_c)
                 mkdir -p target/staticlib
-                shown env -C crates/ssp rt lib && cp crates/ssp/out/libssp.a target/staticlib/ || return 1 ;;
+                shown env -C crates/ssp_c rt lib && cp crates/ssp_c/out/libssp_c.a target/staticlib/libssp.a || return 1 ;;
             *)
                 mkdir -p target/bin
                 shown env -C "crates/$name" rt run && cp "crates/$name/out/$name" target/bin/ || return 1 ;;
