@@ -26,15 +26,19 @@ crates_of() {
 }
 
 # shown COMMAND...: runs rt, shows a line for each crate as it is proved, and where it fails the end of all that it printed.
-# The lines are read one by one, so that they are seen at once in a pipe too. One that names a crate comes before its verdict.
+# The lines are read one by one, so that they are seen at once in a pipe too. One that names a crate comes before its verdict; 'rt all'
+# says the same again in a line of its own.
 shown() {
-    local line crate=
+    local line crate='' all=
     mkdir -p target
     "$@" 2>&1 </dev/null | tee target/proving.log | {
         while IFS= read -r line; do
             case $line in
                 'crate '*': modules'*) crate=${line#crate }; crate=${crate%%:*} ;;
+                '== '*) all=1 ;;
+                *': ok') printf '  %s\n' "${line%: ok}" ;;
                 'logic=proved functions='*)
+                    [ -z "$all" ] || continue
                     line=${line#logic=proved functions=}
                     printf '  %s: %d functions\n' "$crate" "${line%% *}" ;;
             esac
@@ -47,7 +51,7 @@ shown() {
 # look for it: the C library of ssp_c, as libssp.a, into target/staticlib, a program into target/bin.
 proving() {
     local name
-    echo "  $(crates_of "$@") crates; those unchanged since they were proved are not proved again. From nothing it is ten to twenty minutes on two cores."
+    echo "  $(crates_of "$@") crates; those unchanged since they were proved are not proved again. From nothing it takes long."
     for name in "$@"; do
         case $name in
             ssp_c)
