@@ -2,10 +2,12 @@
 // looks at it.
 #![tactic(auto)]
 
-ghost use Rattle.std.specs.Prelude.{◌≡◌, ◌++◌, ◌+◌, ◌≤◌, length, take};
+ghost use Rattle.std.specs.Prelude.{◌≡◌, ◌++◌, ◌+◌, ◌≤◌, length};
 ghost use Rattle.programs.specs.Bench as Bench;
 ghost use Rattle.programs.specs.Reader as Reader;
 ghost use Rattle.answering.specs.Machines.{most_text, answer_to};
+
+use text::Text;
 
 // Who answers: the controller in program bench, the reader in program reader.
 #[derive(Clone, Copy)]
@@ -15,51 +17,50 @@ pub enum Machine {
 }
 
 // Hands a frame to the controller with an output, and appends the line of what comes of it. What stood in the output is not shown.
-fn answer_controller(
+fn answer_controller<const N: usize>(
     f: &[u8],
-    room: &mut [u8],
+    output: &mut [u8],
     state: &mut [u8],
-    out: &mut [u8],
-    used: usize,
-) -> usize
-    requires { (length room.old ≡ 126) × (used + most_text ≤ length out.old) }
-    ensures upper_bound { result ≤ length out.old }
-    ensures out_after { take result out.new ≡ take used out.old ++ (Bench.answer_to state.old f.now).text }
+    text: &mut Text<N>,
+)
+    requires { (length output.old ≡ 126) × (length text.old + most_text ≤ N) }
+    ensures text_after { text.new ≡ text.old ++ (Bench.answer_to state.old f.now).text }
     ensures state_after { state.new ≡ (Bench.answer_to state.old f.now).state }
 {
-    let reply = controller::frame(state, f, room);
+    let outcome = controller::frame(state, f, output);
+    let reply = replies::reply(outcome);
     let n = wording::bytes_written(reply, f);
-    wording::put_line(reply, &room[..n], out, used)
+    wording::put_line(reply, &output[..n], text);
 }
 
 // Hands a packet to the reader with an output, and appends the line of what comes of it. What stood in the output is not shown.
-fn answer_reader(f: &[u8], room: &mut [u8], state: &mut [u8], out: &mut [u8], used: usize) -> usize
-    requires { (length room.old ≡ 776) × (used + most_text ≤ length out.old) }
-    ensures upper_bound { result ≤ length out.old }
-    ensures out_after { take result out.new ≡ take used out.old ++ (Reader.answer_to state.old f.now).text }
+// Like the one above but for the call, the bytes that are shown and their printing: a trait of those three would be longer than both.
+fn answer_reader<const N: usize>(f: &[u8], output: &mut [u8], state: &mut [u8], text: &mut Text<N>)
+    requires { (length output.old ≡ 776) × (length text.old + most_text ≤ N) }
+    ensures text_after { text.new ≡ text.old ++ (Reader.answer_to state.old f.now).text }
     ensures state_after { state.new ≡ (Reader.answer_to state.old f.now).state }
 {
-    let reply = gather::packet(state, f, room);
+    let outcome = gather::packet(state, f, output);
+    let reply = replies::reply(outcome);
     let n = wording::handed(reply, f);
-    wording::put_heard(reply, &room[..n], out, used)
+    wording::put_heard(reply, &output[..n], text);
 }
 
-// Appends the line of what the machine says to a frame. `room` holds its output meanwhile.
-pub fn answer(
+// Appends the line of what the machine says to a frame. What it puts out stands in `output` meanwhile. One match of two
+// arms: with a trait in its place each clause that says `answer_to machine` would name a bound's member, for one match.
+pub fn answer<const N: usize>(
     machine: Machine,
     f: &[u8],
-    room: &mut [u8],
+    output: &mut [u8],
     state: &mut [u8],
-    out: &mut [u8],
-    used: usize,
-) -> usize
-    requires { (776 ≤ length room.old) × (used + most_text ≤ length out.old) }
-    ensures upper_bound { result ≤ length out.old }
-    ensures out_after { take result out.new ≡ take used out.old ++ (answer_to machine state.old f.now).text }
+    text: &mut Text<N>,
+)
+    requires { (776 ≤ length output.old) × (length text.old + most_text ≤ N) }
+    ensures text_after { text.new ≡ text.old ++ (answer_to machine state.old f.now).text }
     ensures state_after { state.new ≡ (answer_to machine state.old f.now).state }
 {
     match machine {
-        Machine::Controller => answer_controller(f, &mut room[..126], state, out, used),
-        Machine::Reader => answer_reader(f, &mut room[..776], state, out, used),
+        Machine::Controller => answer_controller(f, &mut output[..126], state, text),
+        Machine::Reader => answer_reader(f, &mut output[..776], state, text),
     }
 }

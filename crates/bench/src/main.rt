@@ -1,14 +1,11 @@
 // Program bench: frames as lines of hexadecimal from standard input, and what the controller says to each on standard output.
+// The main of program reader differs from this one in usage and machine alone: they share `console`.
 #![tactic(auto)]
 
 use console::Streams;
 
 fn main(rt: HostRuntime) {
-    let streams = Streams {
-        input: rt.stdin(),
-        output: rt.stdout(),
-        errors: rt.stderr(),
-    };
+    let streams = Streams::standard(&rt);
     if console::explained(
         &rt,
         streams,

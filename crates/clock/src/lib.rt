@@ -1,126 +1,142 @@
-// Seconds, SSP time and the mode as numbers: what "Time and mode" of document 01 computes, by value.
-// The mode rule takes numbers and not a record, since its callers keep their state as bytes.
+// Seconds, SSP time and the mode rule: what "Time and mode" of document 01 computes, by value.
+// The mode rule takes mode and numbers, and not a record of them: its caller keeps them in a state of bytes, and there is one.
 #![tactic(auto)]
 
-ghost use Rattle.std.specs.Prelude.{◌≡◌, ◌%◌, ◌<◌, ◌≤◌, leb};
+ghost use Rattle.std.specs.Prelude.{◌≡◌, ◌<◌, ◌≤◌};
+ghost use Rattle.std.proofs.Common.{refl};
+ghost use Rattle.wire.specs.Wire.{be24, bytes24};
 ghost use Rattle.paper.specs.Clock as Clock;
-ghost use Rattle.paper.specs.Mode as Mode;
+ghost use Rattle.paper.specs.Mode as rule;
+ghost use Rattle.modes.specs.Meaning.{mode_meant};
 
-// The seconds of a broadcast's time word.
+use modes::Mode;
+use wire::Number;
+
+// The count of ticks stays at this one.
+const LAST_TICK: u16 = 1023;
+
+// The seconds of a broadcast's time word. A number and no type of its own: `SspTime::new` alone asks how great it is, or the ticks are.
 pub fn seconds(time: u16) -> u16
     ensures { (result ≡ Clock.seconds time) × (result ≤ 16383) }
 {
     time / 4
 }
 
-// SSP time, of the seconds and the ticks since the broadcast. The bounds keep it in 24 bits.
-pub fn ssp_time(t: u16, m: u16) -> u32
-    requires { (t ≤ 16383) × (m ≤ 1023) }
-    ensures { (result ≡ Clock.ssp_time t m) × (result < 16777216) }
-{
-    1024 * (t as u32) + (m as u32)
+// SSP time: 1024 for each second, and one for each tick since the broadcast.
+#[derive(Clone, Copy, PartialEq, Eq)]
+pub struct SspTime {
+    pub ticks: u32,
+    ghost in_24_bits: { ticks < 16777216 },
 }
 
-// The seconds of an SSP time.
-pub fn seconds_of(ssp: u32) -> u16
-    requires { ssp < 16777216 }
-    ensures { (result ≡ Clock.seconds_of ssp) × (result ≤ 16383) }
-{
-    (ssp / 1024) as u16
+impl SspTime {
+    // The bounds keep it in 24 bits.
+    pub fn new(t: u16, m: u16) -> Self
+        requires { (t ≤ 16383) × (m ≤ 1023) }
+        ensures { result.ticks ≡ Clock.ssp_time t m }
+    {
+        SspTime {
+            ticks: 1024 * u32::from(t) + u32::from(m),
+        }
+    }
+
+    pub fn seconds(self) -> u16
+        ensures { (result ≡ Clock.seconds_of self.ticks) × (result ≤ 16383) }
+    {
+        // narrows a number that is shown small: no `From` does, and the error of `TryFrom` cannot be
+        (self.ticks / 1024) as u16
+    }
+
+    // The highest byte first, as packets and entries keep it.
+    pub fn to_be_bytes(self) -> [u8; 3]
+        ensures { result ≡ bytes24 self.ticks }
+    {
+        let [_, top, middle, low] = self.ticks.to_be_bytes();
+        [top, middle, low]
+    }
+
+    pub fn from_be_bytes(bytes: [u8; 3]) -> Self
+        ensures { result.ticks ≡ be24 bytes 0 }
+    {
+        SspTime {
+            ticks: u32::from_be_bytes([0, bytes[0], bytes[1], bytes[2]]),
+        }
+    }
 }
 
-// The count of ticks after one more: it stays at 1023.
+// It stands in three bytes of what is kept.
+impl Number for SspTime {
+    ghost size = { 3 };
+
+    ghost bytes = { λ time. bytes24 time.ticks };
+
+    ghost reads = { λ s at time. time.ticks ≡ be24 s at };
+
+    fn load(s: &[u8], at: usize) -> SspTime {
+        SspTime::from_be_bytes([s[at], s[at + 1], s[at + 2]])
+    }
+
+    fn store(self, s: &mut [u8], at: usize) {
+        wire::copy_to(s, at, &self.to_be_bytes());
+    }
+
+    ghost sized = { λ time. refl };
+}
+
+// The count of ticks after one more.
 #[tactic(auto, unfolding(paper::specs::Clock::ticked))]
 pub fn ticked(m: u16) -> u16
     ensures { (result ≡ Clock.ticked m) × (result ≤ 1023) }
 {
-    if m < 1023 { m + 1 } else { 1023 }
-}
-
-// Mode and lock in one number, as packets and entries keep them.
-pub fn nibble(mode: u8, locked: bool) -> u8
-    requires { mode < 8 }
-    ensures { (result ≡ Mode.nibble (Mode.mode_of mode) locked) × (result < 16) }
-{
-    if locked { mode + 8 } else { mode }
-}
-
-// The mode that such a number holds.
-pub fn mode_in(nibble: u8) -> u8
-    ensures { (result ≡ nibble % 8) × (result < 8) }
-{
-    nibble % 8
-}
-
-// Whether such a number says locked.
-pub fn locked_in(nibble: u8) -> bool
-    ensures { result ≡ leb 8 nibble }
-{
-    8 <= nibble
+    m.saturating_add(1).min(LAST_TICK)
 }
 
 // The mode that height and time call for while descending. Bit 15 of the altitude word is no part of the height.
-fn target(t: u16, altitude: u16) -> u8
-    ensures { (result ≡ Mode.number (Mode.target t altitude)) × (1 ≤ result) × (result ≤ 4) }
+#[tactic(auto, unfolding(paper::specs::Mode::target))]
+fn target(t: u16, altitude: u16) -> Mode
+    ensures { mode_meant result ≡ rule.target t altitude }
 {
     if (altitude % 32768 <= 700) | (7200 <= t) {
-        return 4;
+        return Mode::Proximity;
     }
     if 5100 <= t {
-        return 3;
+        return Mode::Lower;
     }
     if 600 <= t {
-        return 2;
+        return Mode::Mid;
     }
-    1
-}
-
-// The greater of a mode and the target: the mode never falls.
-fn climbed(mode: u8, t: u16, altitude: u16) -> u8
-    requires { mode < 8 }
-    ensures { (result ≡ Mode.number (Mode.greater (Mode.mode_of mode) (Mode.target t altitude))) × (result < 8) }
-{
-    let to = target(t, altitude);
-    if mode <= to { to } else { mode }
-}
-
-// A number of 16 bits, where a sum with it must not wrap.
-fn wide(x: u16) -> u32
-    ensures { (result ≡ x) × (result < 65536) }
-{
-    x as u32
+    Mode::Upper
 }
 
 // The mode that an accepted broadcast leads an unlocked controller to. Both seconds are kept ones, so that the sums fit.
+#[tactic(auto, using(modes::proofs::Order::max_is_greater), unfolding(paper::specs::Mode::next))]
 pub fn next_mode(
-    mode: u8,
+    mode: Mode,
     entered: u16,
     reference: u16,
     t: u16,
     altitude: u16,
     collecting: bool,
-) -> u8
-    requires { mode < 8 }
-    ensures { (result ≡ Mode.number (Mode.next (Mode.mode_of mode) entered reference
-        (record { t = t; altitude = altitude; collecting = collecting }))) × (result < 8) }
+) -> Mode
+    ensures { mode_meant result ≡ rule.next (mode_meant mode) entered reference
+        (record { t = t; altitude = altitude; collecting = collecting }) }
 {
-    if mode == 0 {
-        return 0;
-    }
-    if mode < 4 {
-        return climbed(mode, t, altitude);
-    }
-    if mode == 4 {
-        if !collecting & (wide(entered) + 1860 <= wide(t)) {
-            return 5;
+    match mode {
+        Mode::Upper | Mode::Mid | Mode::Lower => mode.max(target(t, altitude)),
+        Mode::Proximity => {
+            if !collecting & (u32::from(entered) + 1860 <= u32::from(t)) {
+                Mode::Surface
+            } else {
+                mode
+            }
         }
-        return 4;
-    }
-    if mode == 5 {
-        if wide(reference) + 180 <= wide(t) {
-            return 6;
+        Mode::Surface => {
+            if u32::from(reference) + 180 <= u32::from(t) {
+                Mode::Extended
+            } else {
+                mode
+            }
         }
-        return 5;
+        Mode::Emc | Mode::Extended | Mode::Diagnostic => mode,
     }
-    mode
 }

@@ -3,13 +3,14 @@
 use mathlib.Core.Path.{◌≡◌, sym, ap, ◌∙◌}
 use mathlib.Core.Bool.{Bool, false, not, ◌&&◌, ◌||◌}
 use Prim.Native.Nat.{ℕ, zero, suc, ◌+◌, ◌*◌, ◌/◌, ◌%◌, ◌^◌, ◌<◌, min}
-use native.Mathlib.Nat.{zero-min, mod-one, mod-eq_of_lt, lt_of_le_of_lt}
+use native.Mathlib.Nat.{mod-one, mod-eq_of_lt, lt_of_le_of_lt}
 use native.Mathlib.Omega.{arith}
 use lib.Arith.{mod-mul}
-use lib.Bits.{bit_and, and_step, and_shr, and_le_l}
+use lib.Bits.{bit_and, and_le_l}
+use Rattle.std.proofs.lemmas.Nat.Bits.{bit_at_and}
+use Rattle.std.proofs.lemmas.Grind.{common_steps}
 use lib.Dec.{eqb}
 use lib.Pow.{pow_pos}
-use borrow.Author.Tests.{ne_eqb}
 use Rattle.paper.specs.Commands.{names}
 
 -- one of the lowest n bits is in both
@@ -17,18 +18,10 @@ abbrev pub common : ℕ → ℕ → ℕ → Bool
 common a b zero = false
 common a b (suc n) = (names a n && names b n) || common a b n
 
--- the lowest bit of an `&`
-low : (x y : ℕ) → bit_and x y % 2 ≡ min (x % 2) (y % 2)
-low x y = omega (arith, and_step x y)
-
 -- a bit of weight p before the bits below it, r
 bit : (x y p r : ℕ) (s : Bool) → x < 2 → y < 2 → 0 < p → not (eqb r 0) ≡ s
     → not (eqb (min x y * p + r) 0) ≡ (eqb x 1 && eqb y 1) || s
-bit zero y p r s a b c e = let z : min 0 y * p + r ≡ r = rw zero-min (omega arith) in rw z e
-bit (suc zero) zero p r s a b c e = let z : 0 * p + r ≡ r = omega arith in rw z e
-bit (suc zero) (suc zero) p r s a b c e = rw (ne_eqb (1 * p + r) 0 (λ z. omega arith))
-bit (suc zero) (suc (suc y)) p r s a b c e = absurd (omega arith)
-bit (suc (suc x)) y p r s a b c e = absurd (omega arith)
+bit x y p r s a b c e = grind (arith, common_steps)
 
 below : (a b n : ℕ) → not (eqb (bit_and a b % 2 ^ n) 0) ≡ common a b n
 below a b zero = rw (mod-one (bit_and a b))
@@ -36,7 +29,7 @@ below a b (suc n) =
     let twice : 2 ^ suc n ≡ 2 * 2 ^ n = omega arith in
     let both : ℕ = bit_and a b in
     let split : both % (2 * 2 ^ n) ≡ (both / 2 ^ n % 2) * 2 ^ n + both % 2 ^ n = mod-mul both (omega arith) (pow_pos n) in
-    rw (twice, split, and_shr a b n, low)
+    rw (twice, split, bit_at_and a b n)
     (bit (a / 2 ^ n % 2) (b / 2 ^ n % 2) (2 ^ n) (both % 2 ^ n) (common a b n) (omega arith) (omega arith) (pow_pos n)
     (below a b n))
 

@@ -1,26 +1,28 @@
-// What a command says: a request with its fields, or the number that refuses it.
+// What a command says: a request with its fields, or the refusal of it.
 // The values are decided here once, so whoever acts on a request finds fields that are in range.
 #![tactic(auto)]
 
 ghost use Rattle.std.specs.Prelude.{◌≡◌};
 ghost use Rattle.paper.specs.Commands as Commands;
-ghost use Rattle.command.specs.Meaning.{meant, Decodes};
+ghost use Rattle.command.specs.Meaning.{meant};
 
+use modes::Nibble;
+use replies::Refusal;
 use streams::NOT_CARRIED;
+
+// The ids of the carried commands.
+const CLEAR_STREAMS: u16 = 0x0013;
+
+const SEND_HOUSEKEEPING: u16 = 0x0016;
+
+const SET_MODE: u16 = 0x0032;
 
 // A request with its fields: streams to clear, or the mode with its lock to set.
 #[derive(Clone, Copy)]
 pub enum Request {
     Clear(u16),
     Housekeeping,
-    SetMode(u8),
-}
-
-// What a command comes to: a request to act on, or a refusal's number.
-#[derive(Clone, Copy)]
-pub enum Decoded {
-    Act(Request),
-    Refuse(u8),
+    SetMode(Nibble),
 }
 
 // Whether a mask has a bit that names no stream.
@@ -30,44 +32,23 @@ fn outside(mask: u16) -> bool
     mask & NOT_CARRIED != 0
 }
 
-// What the command `id` comes to with parameters of `len` bytes; `value` is their number where they are two, and any
-// number elsewhere.
-pub fn decode(id: u16, len: usize, value: u16) -> Decoded
-    ensures { Decodes id len value result }
+// What the command `id` comes to with its parameters.
+#[tactic(auto, unfolding(paper::specs::Commands::decoded))]
+pub fn decode(id: u16, parameters: &[u8]) -> Result<Request, Refusal>
+    ensures { meant result ≡ Commands.decoded id parameters.now }
 {
-    if id == 0x0013 {
-        if len != 2 {
-            return Decoded::Refuse(3);
+    match (id, parameters) {
+        (CLEAR_STREAMS, &[high, low]) => {
+            let mask = u16::from_be_bytes([high, low]);
+            if outside(mask) {
+                return Err(Refusal::OutOfRange);
+            }
+            Ok(Request::Clear(mask))
         }
-        if outside(value) {
-            return Decoded::Refuse(4);
-        }
-        return Decoded::Act(Request::Clear(value));
+        (SEND_HOUSEKEEPING, []) => Ok(Request::Housekeeping),
+        (SET_MODE, &[0, value @ 0..=15]) => Ok(Request::SetMode(Nibble::from(value))),
+        (SET_MODE, [_, _]) => Err(Refusal::OutOfRange),
+        (CLEAR_STREAMS | SEND_HOUSEKEEPING | SET_MODE, _) => Err(Refusal::WrongLength),
+        _ => Err(Refusal::NotCarried),
     }
-    if id == 0x0016 {
-        if len != 0 {
-            return Decoded::Refuse(3);
-        }
-        return Decoded::Act(Request::Housekeeping);
-    }
-    if id == 0x0032 {
-        if len != 2 {
-            return Decoded::Refuse(3);
-        }
-        if 15 < value {
-            return Decoded::Refuse(4);
-        }
-        return Decoded::Act(Request::SetMode(value as u8));
-    }
-    Decoded::Refuse(2)
-}
-
-// The number that a command is refused with, and 0 for a request.
-pub fn refusal(d: Decoded) -> u8
-    ensures { result ≡ Commands.refused_with (meant d) }
-{
-    let Decoded::Refuse(n) = d else {
-        return 0;
-    };
-    n
 }

@@ -5,8 +5,11 @@ ghost use Rattle.std.specs.Prelude.{◌≡◌};
 ghost use Rattle.answering.specs.Machines.{begun};
 
 use answering::Machine;
+use saying::Program;
 pub use saying::Streams;
+use session::Desk;
 use std::env::{Env, FillError};
+use text::Text;
 
 // The programs take no arguments: to any, says how a program is used on standard error, and answers true, so that nobody waits for
 // a program that waits for standard input.
@@ -20,28 +23,29 @@ pub fn explained(arguments: &impl Env, streams: Streams, usage: &[u8]) -> bool {
 }
 
 // Serves standard input to its end, from a state that was started.
-fn serve(streams: Streams, machine: Machine, state: &mut [u8])
-    requires { state.old ≡ begun machine }
+fn serve(program: Program, state: &mut [u8])
+    requires { state.old ≡ begun program.machine }
 {
     let mut chunk = [0u8; 65536];
-    let mut line = [0u8; 1028];
-    let mut frame = [0u8; 514];
-    let mut out = [0u8; 65536];
-    dialogue::run(
-        streams, machine, &mut chunk, &mut line, &mut frame, state, &mut out,
-    );
+    let mut desk = Desk::new();
+    let mut text = Text::<65536>::new();
+    dialogue::run(program, &mut chunk, &mut desk, state, &mut text);
 }
 
 // Program bench: serves from a fresh controller.
 pub fn serve_controller(streams: Streams) {
     let mut state = [0u8; 8715];
-    controller::start(&mut state);
-    serve(streams, Machine::Controller, &mut state);
+    // no refusal, since that many bytes are enough
+    let _ = controller::start(&mut state);
+    let machine = Machine::Controller;
+    serve(Program { machine, streams }, &mut state);
 }
 
-// Program reader: serves from a fresh reader.
+// Program reader: serves from a fresh reader. Length, start and machine are all that these two are made of: there is nothing to share.
 pub fn serve_reader(streams: Streams) {
     let mut state = [0u8; 9962];
-    shelving::start(&mut state);
-    serve(streams, Machine::Reader, &mut state);
+    // no refusal, since that many bytes are enough
+    let _ = shelving::start(&mut state);
+    let machine = Machine::Reader;
+    serve(Program { machine, streams }, &mut state);
 }

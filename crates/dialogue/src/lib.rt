@@ -4,82 +4,70 @@
 // What a read brings is taken as any bytes.
 #![tactic(auto)]
 
-ghost use Rattle.std.specs.Prelude.{◌≡◌, true, ◌&&◌, ◌≤◌, length};
-ghost use Rattle.lines.specs.Lines.{line_of};
-ghost use Rattle.programs.specs.Programs.{longest};
-ghost use Rattle.answering.specs.Machines.{begun};
-ghost use Rattle.incoming.specs.Brought.{brought, brings};
-ghost use Rattle.saying.specs.Served.{Room, Served};
+ghost use Rattle.std.specs.Prelude.{◌≡◌, ◌≤◌, true, [], List, ℕ, length};
+ghost use Rattle.lines.specs.Lines.{kept};
+ghost use Rattle.answering.specs.Machines.{begun, most_text};
+ghost use Rattle.incoming.specs.Brought.{brought, brings, count_read};
+ghost use Rattle.saying.specs.Served.{Served};
 ghost use Rattle.dialogue.specs.Loop.{comes, Ran};
 
-use answering::Machine;
-use saying::{Streams, Work};
+use saying::Program;
+use session::Desk;
 use std::io::{Read, Stdin};
+use text::Text;
 
-// One read: how many bytes it brought to the start of the chunk, and -1 where it failed or was interrupted.
-fn read(mut input: Stdin, chunk: &mut [u8]) -> isize {
-    match input.read(chunk) {
-        Ok(got) => got as isize,
-        Err(_) => -1,
-    }
+// One read: how many bytes it brought to the start of the chunk, and None where it failed or was interrupted.
+fn read(mut input: Stdin, chunk: &mut [u8]) -> Option<usize> {
+    input.read(chunk).ok()
+}
+
+// Whether to read on after a read: it brought bytes, so that there may be more.
+fn brings_more(got: Option<usize>) -> bool
+    ensures { (chunk : List ℕ) → result ≡ brings (brought (count_read got) chunk) }
+{
+    got.is_some_and(|n| n > 0)
 }
 
 // Answers what a read brought: `got` is its answer, and the chunk what it left there.
-fn heard(
-    streams: Streams,
-    machine: Machine,
-    got: isize,
-    n: usize,
+fn heard<const N: usize>(
+    program: Program,
+    got: Option<usize>,
     chunk: &mut [u8],
-    line: &mut [u8],
-    frame: &mut [u8],
+    desk: &mut Desk,
     state: &mut [u8],
-    out: &mut [u8],
-) -> Work
-    requires { (Room n chunk.old line.old frame.old out.old) × (1 ≤ length chunk.old) }
-    ensures served { Served (comes machine (brought got chunk.old) (line_of longest n line.old) state.old) line.new state.new result }
-    ensures on_value { result.on ≡ (result.whole && brings (brought got chunk.old)) }
+    text: &mut Text<N>,
+) -> Result<usize, usize>
+    requires { (1 ≤ length chunk.old) × (length chunk.old ≤ 65536) × (most_text ≤ N) × (N ≤ 65536) }
+    ensures { Served (comes program.machine (brought (count_read got) chunk.old) desk.old.line state.old) desk.new.line state.new result }
 {
-    let k = incoming::input_of(got, n, chunk);
-    let w = saying::answer_all(streams, machine, &chunk[..k], n, line, frame, state, out);
-    let m = w.n;
-    let said = w.said;
-    let whole = w.whole;
-    Work {
-        n: m,
-        said,
-        whole,
-        on: whole & (got > 0),
-    }
+    let k = incoming::input_of(got, desk.line.count(), chunk);
+    saying::answer_all(program, &chunk[..k], desk, state, text)
 }
 
 // Serves standard input to its end, and answers whether the output took all that there was to say.
-// A proved loop has to end, and nothing says that the input does: so it counts its turns down from a number that no run uses up.
-pub fn run(
-    streams: Streams,
-    machine: Machine,
+// A proved loop has to end, and nothing says that the input does: so its turns are counted up to a number that no run comes to.
+pub fn run<const N: usize>(
+    program: Program,
     chunk: &mut [u8],
-    line: &mut [u8],
-    frame: &mut [u8],
+    desk: &mut Desk,
     state: &mut [u8],
-    out: &mut [u8],
+    text: &mut Text<N>,
 ) -> bool
-    requires { (Room 0 chunk.old line.old frame.old out.old) × (1 ≤ length chunk.old) × (state.old ≡ begun machine) }
-    ensures { result ≡ true → Ran machine state.new }
+    requires sizes { (1 ≤ length chunk.old) × (length chunk.old ≤ 65536) × (most_text ≤ N) × (N ≤ 65536) }
+    requires fresh { (desk.old.line ≡ kept []) × (state.old ≡ begun program.machine) }
+    ensures { result ≡ true → Ran program.machine state.new }
 {
-    let mut turns = u64::MAX;
-    let mut n = 0;
-    while turns > 0 {
-        let got = read(streams.input, chunk);
-        let w = heard(streams, machine, got, n, chunk, line, frame, state, out);
-        if !w.on {
-            if got < 0 {
-                saying::write_all(&streams.errors, b"standard input cannot be read\n");
-            }
-            return w.whole;
+    for _ in 0..u64::MAX {
+        let got = read(program.streams.input, chunk);
+        if heard(program, got, chunk, desk, state, text).is_err() {
+            return false;
         }
-        n = w.n;
-        turns -= 1;
+        if !brings_more(got) {
+            if got.is_none() {
+                saying::write_all(&program.streams.errors, b"standard input cannot be read\n");
+            }
+            return true;
+        }
     }
     true
 }

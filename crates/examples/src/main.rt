@@ -5,9 +5,5 @@
 use console::Streams;
 
 fn main(rt: HostRuntime) {
-    console::serve_controller(Streams {
-        input: rt.stdin(),
-        output: rt.stdout(),
-        errors: rt.stderr(),
-    });
+    console::serve_controller(Streams::standard(&rt));
 }

@@ -1,28 +1,11 @@
 -- What the code's kinds and channels mean, with the frame's bytes beside them: the paper's frame and channel.
 -- Assumes nothing.
-use Rattle.std.specs.Prelude.{List, ◌≡◌, ℕ, ◌≤◌, length, drop}
+use Rattle.std.specs.Prelude.{Result, Ok, Err, List, ◌≡◌, ℕ, ◌≤◌, length, drop}
 use Rattle.wire.specs.Wire.{be16}
-use Rattle.paper.specs.Frames.{
-  Channel,
-  cdmu_a,
-  cdmu_b,
-  Frame,
-  broadcast,
-  command,
-  tick,
-  sample,
-  poll,
-  status,
-  analogue,
-  faulty,
-  byte,
-  on_channel,
-  frame_of,
-}
+use Rattle.paper.specs.Frames.{Channel, cdmu_a, cdmu_b, Frame, broadcast, command, tick, sample, poll, status, analogue, faulty, byte, on_channel}
 use Rattle.frames.specs.declared.Side.{Side}
 use Rattle.frames.specs.declared.Side.TheVariants.{A, B}
-use Rattle.frames.specs.declared.Sided.{Sided}
-use Rattle.frames.specs.declared.Sided.TheVariants.{On, Neither}
+use Rattle.frames.specs.declared.NoChannel.{NoChannel}
 use Rattle.frames.specs.declared.Kind.{Kind}
 use Rattle.frames.specs.declared.Kind.TheVariants.{Broadcast, Command, Tick, Sample, Poll, Status, Analogue, Faulty}
 
@@ -52,21 +35,10 @@ Sized Analogue f = length f ≡ 59
 Sized Faulty f = Unit {0}
 
 -- the frame that is made on a side, and a faulty one on neither
-abbrev pub on_side : Sided → (Channel → Frame) → Frame
-on_side (On side) made = made (channel side)
-on_side Neither made = faulty
+abbrev pub on_side : Result Side NoChannel → (Channel → Frame) → Frame
+on_side (Ok side) made = made (channel side)
+on_side (Err e) made = faulty
 
 -- what the side of a channel byte says of any frame with that byte
-abbrev pub SideOf : ℕ → Sided → Type 0
+abbrev pub SideOf : ℕ → Result Side NoChannel → Type 0
 SideOf cc r = (made : Channel → Frame) → on_channel cc made ≡ on_side r made
-
--- a kind that is none of those without a channel
-pub record Channelled (kind : ℕ) : Type 0 where
-  pub tick : kind ≡ 3 → ⊥
-  pub sample : kind ≡ 4 → ⊥
-  pub analogue : kind ≡ 7 → ⊥
-
--- what `on_side` promises: the paper's frame, of any frame of that kind and length whose channel byte is of that side
-abbrev pub OnSide : ℕ → ℕ → Side → Kind → Type 0
-OnSide kind n side r =
-    (f : List ℕ) → byte f 0 ≡ kind → length f ≡ n → SideOf (byte f 1) (On side) → (meant r f ≡ frame_of f) × Sized r f

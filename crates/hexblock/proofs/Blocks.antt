@@ -5,7 +5,8 @@ use Prim.Native.Nat.{ℕ, ◌+◌, ◌*◌, ◌≤◌, ◌<◌}
 use native.Mathlib.Omega.{arith}
 use lib.ListN.{length, take, drop, get_or, set}
 use lib.Seq.{take_all}
-use Rattle.lines.specs.Hex.{bytes, bytes_in_front, read_hex}
+use borrow.Author.Tests.{lt-ltb}
+use Rattle.lines.specs.Hex.{Read, bytes, bytes_in_front, read_hex}
 use Rattle.hexdigits.proofs.HexDigits.{read_step, read-end}
 use Rattle.hexblock.specs.Valued.{Valued}
 
@@ -15,10 +16,9 @@ pub block_step : (s v out : List ℕ) (n : ℕ) → n < 16 → length s ≡ 32 �
 block_step s v out n h a b w =
     let x = get_or v (2 * n) 0 in
     let y = get_or v (2 * n + 1) 0 in
-    let e : 2 * (n + 1) ≡ 2 * n + 2 = omega arith in
-    ap (λ (k : ℕ). bytes_in_front (take (n + 1) (set out n (x * 16 + y))) (read_hex (drop k s))) e
-    ∙ read_step s out (2 * n) n x y (omega arith) (omega arith) (w.each (2 * n) (omega arith)) (w.each (2 * n + 1) (omega arith)) (w.digits (2 * n) (omega arith)) (w.digits (2 * n + 1) (omega arith))
+    read_step s out n (x * 16 + y) (omega arith) (omega arith)
+    (λ (r : Read). rw (← w.each (2 * n) (omega arith), ← w.each (2 * n + 1) (omega arith), lt-ltb x 16 (w.digits (2 * n) (omega arith)), lt-ltb y 16 (w.digits (2 * n + 1) (omega arith))))
 
 -- the end of a block
 pub block_end : (s out : List ℕ) (n : ℕ) → 16 ≤ n → length s ≡ 32 → length out ≡ 16 → bytes_in_front (take n out) (read_hex (drop (2 * n) s)) ≡ read_hex s → read_hex s ≡ bytes out
-block_end s out n h a b e = sym e ∙ read-end s out (2 * n) n (omega arith) ∙ ap bytes (take_all n out (omega arith))
+block_end s out n h a b e = sym e ∙ read-end s out n (omega arith) ∙ ap bytes (take_all n out (omega arith))

@@ -1,46 +1,32 @@
 // A block of 32 digits, read at once: loops that no step leaves early have vector instructions.
 #![tactic(auto)]
 
-ghost use Rattle.std.specs.Prelude.{true, ◌≡◌, ◌≤◌, length};
+ghost use Rattle.std.specs.Prelude.{◌≡◌, IfSome};
 ghost use Rattle.lines.specs.Hex.{bytes, read_hex};
 ghost use Rattle.hexblock.specs.Valued.{Valued};
 
-// The greater of two.
-fn greatest(a: u8, b: u8) -> u8
-    ensures { (a ≤ result) × (b ≤ result) }
+// The values of 32 characters, if they are all digits. One that is none counts as 16 meanwhile, so that no step ends the loop.
+fn values(s: &[u8; 32]) -> Option<[u8; 32]>
+    ensures { IfSome result (Valued 32 s.now) }
 {
-    if a < b { b } else { a }
-}
-
-// The values of 32 characters, and whether they are all digits.
-fn values(s: &[u8], v: &mut [u8]) -> bool
-    requires { (length s.now ≡ 32) × (length v.old ≡ 32) }
-    ensures { result ≡ true → Valued 32 s.now v.new }
-{
-    let mut j = 0;
-    let mut worst = 0;
-    while j < 32 {
-        let x = hexdigits::value(s[j]);
+    let mut v = [0; 32];
+    let mut worst = 0u8;
+    for j in 0..32 {
+        let x = hexdigits::value(s[j]).unwrap_or(16);
         v[j] = x;
-        worst = greatest(worst, x);
-        j += 1;
+        worst = worst.max(x);
     }
-    worst < 16
+    (worst < 16).then_some(v)
 }
 
-// Reads 32 digits at once, and answers whether they are all digits.
-pub fn block(s: &[u8], out: &mut [u8]) -> bool
-    requires { (length s.now ≡ 32) × (length out.old ≡ 16) }
-    ensures { result ≡ true → read_hex s.now ≡ bytes out.new }
+// The bytes of 32 characters, read at once, if they are all digits.
+pub fn block(s: &[u8; 32]) -> Option<[u8; 16]>
+    ensures { IfSome result (λ b. read_hex s.now ≡ bytes b) }
 {
-    let mut v = [0u8; 32];
-    if !values(s, &mut v) {
-        return false;
-    }
-    let mut n = 0;
-    while n < 16 {
+    let v = values(s)?;
+    let mut out = [0; 16];
+    for n in 0..16 {
         out[n] = v[2 * n] * 16 + v[2 * n + 1];
-        n += 1;
     }
-    true
+    Some(out)
 }

@@ -1,33 +1,19 @@
--- Laws of lines that this crate's proofs, and a caller's, cite. Assumes nothing.
+-- Laws of a scan, character by character, that this crate's proofs, and a caller's, cite. Assumes nothing.
 use mathlib.Core.Path.{◌≡◌, refl, sym, ap, ◌∙◌}
-use mathlib.Core.Bool.{Bool, true, false, cond, ◌&&◌}
-use mathlib.Core.List.{List}
-use Prim.Native.Nat.{ℕ, ◌+◌, ◌≤◌, ◌<◌}
-use native.Mathlib.Numerals.{add-one}
+use mathlib.Core.Bool.{Bool, true, false, cond}
+use mathlib.Core.List.{List, [], ◌∷◌, ◌++◌, append_assoc, append-nil}
+use Prim.Native.Nat.{ℕ, suc, ◌+◌, ◌≤◌, ◌<◌}
 use native.Mathlib.Omega.{arith}
-use lib.Dec.{leb, ltb, eqb}
-use lib.ListN.{length, take, drop, get_or, set, drop_of_length-le}
+use native.Mathlib.Numerals.{add-one}
+use lib.Dec.{eqb, leb, ltb}
+use lib.ListN.{length, take, drop, get_or, drop_of_length-le, length-append, take-append-drop}
 use lib.Seq.{drop-cons, length-take-le}
-use borrow.Author.Tests.{lt-ltb, le-ltb, le-leb, lt-leb, eq-eqb, ne_eqb, leb-true, ltb-true, ltb-false}
-use Rattle.wire.proofs.Both.{both}
+use borrow.Author.Tests.{eq-eqb, ne_eqb, le-leb, lt-leb, lt-ltb, leb-true, ltb-true}
+use Rattle.std.specs.Prelude.{All, ◌≢◌}
+use Rattle.hexline.specs.Open.{more_by}
 use Rattle.lines.specs.Lines.{LineSoFar, kept, over, more, line_of, line_ended, partly, scan}
-use Rattle.hexdigits.proofs.HexDigits.{stored}
 
 module _ (longest : ℕ) where
-  -- the loop that gathers goes on: there is a character, and room for it
-  pub goes_on : (i size k : ℕ) → (ltb i size && ltb k longest) ≡ true → (i < size) × (k < longest)
-  goes_on i size k e =
-      let p = both (ltb i size) (ltb k longest) e in
-      (ltb-true i size p.0, ltb-true k longest p.1)
-
-  -- it stops with room left: there is no character
-  pub stops : (i size k : ℕ) → (ltb i size && ltb k longest) ≡ false → k < longest → size ≤ i
-  stops i size k e h = ltb-false i size (one (ltb i size) (rw (lt-ltb k longest h) at e))
-    where
-      one : (x : Bool) → (x && true) ≡ false → x ≡ false
-      one true p = p
-      one false p = refl
-
   -- the scan from i on, by its first character
   scan_one : (l : LineSoFar) (s : List ℕ) (i : ℕ) → i < length s
       → scan longest l (drop i s) ≡ cond (eqb (get_or s i 0) 10) (line_ended l (drop (i + 1) s)) (scan longest (more longest l (get_or s i 0)) (drop (i + 1) s))
@@ -43,25 +29,62 @@ module _ (longest : ℕ) where
   pub scan-ended : (l : LineSoFar) (s : List ℕ) (i : ℕ) → i < length s → get_or s i 0 ≡ 10 → scan longest l (drop i s) ≡ line_ended l (drop (i + 1) s)
   scan-ended l s i h e = scan_one l s i h ∙ rw (eq-eqb (get_or s i 0) 10 e)
 
-  -- at any other character
-  pub scan-more : (l : LineSoFar) (s : List ℕ) (i : ℕ) → i < length s → (get_or s i 0 ≡ 10 → ⊥) → scan longest l (drop i s) ≡ scan longest (more longest l (get_or s i 0)) (drop (i + 1) s)
-  scan-more l s i h e = scan_one l s i h ∙ rw (ne_eqb (get_or s i 0) 10 e)
-
-  -- a character that there is room for
-  pub more-kept : (k c : ℕ) (line : List ℕ) → length line ≡ longest → k < longest → more longest (line_of longest k line) c ≡ line_of longest (k + 1) (set line k c)
-  more-kept k c line e h =
-      let a : k ≤ longest = omega arith in
-      let b : k + 1 ≤ longest = omega arith in
-      let d : k ≤ length line = omega arith in
-      let f : k < length line = omega arith in
-      rw (le-leb k longest a, le-leb (k + 1) longest b, length-take-le k line d, lt-ltb k longest h) (ap kept (sym (stored line k c f)))
-
-  -- one that there is none for
-  pub more-over : (k c : ℕ) (line : List ℕ) → length line ≡ longest → longest ≤ k → more longest (line_of longest k line) c ≡ line_of longest (longest + 1) line
-  more-over k c line e h = by (leb k longest) refl ∙ rw (lt-leb (longest + 1) longest (omega arith))
+  -- characters that there is room for
+  more_by-kept : (l s : List ℕ) → length l + length s ≤ longest → more_by longest (kept l) s ≡ kept (l ++ s)
+  more_by-kept l [] h = rw (append-nil l) refl
+  more_by-kept l (c ∷ s) h =
+      let l' : List ℕ = l ++ (c ∷ []) in
+      let k : length l' ≡ length l + 1 = length-append l (c ∷ []) in
+      ap (λ (x : LineSoFar). more_by longest x s) (fits l c (omega arith))
+      ∙ more_by-kept l' s (omega arith)
+      ∙ ap kept (append_assoc l (c ∷ []) s)
     where
-      by : (b : Bool) → leb k longest ≡ b → more longest (cond b (kept (take k line)) over) c ≡ over
+      fits : (l : List ℕ) (c : ℕ) → length l < longest → more longest (kept l) c ≡ kept (l ++ (c ∷ []))
+      fits l c h = rw (lt-ltb (length l) longest h) refl
+
+  -- of a line that is too long
+  more_by-over : (s : List ℕ) → more_by longest over s ≡ over
+  more_by-over [] = refl
+  more_by-over (c ∷ s) = more_by-over s
+
+  -- characters that there is no room for
+  long_step : (l : List ℕ) (c : ℕ) (s : List ℕ) → (length (l ++ (c ∷ [])) ≤ longest → more_by longest (kept (l ++ (c ∷ []))) s ≡ over)
+      → (b : Bool) → ltb (length l) longest ≡ b → more_by longest (cond b (kept (l ++ (c ∷ []))) over) s ≡ over
+  long_step l c s r true e = r (omega (arith, length-append l (c ∷ []), ltb-true (length l) longest e))
+  long_step l c s r false e = more_by-over s
+
+  more_by-long : (l s : List ℕ) → longest < length l + length s → length l ≤ longest → more_by longest (kept l) s ≡ over
+  more_by-long l [] h k = absurd (omega arith)
+  more_by-long l (c ∷ s) h k =
+      long_step l c s (λ m. more_by-long (l ++ (c ∷ [])) s (omega (arith, length-append l (c ∷ []))) m) (ltb (length l) longest) refl
+
+  -- a line in its array, with more characters: there is room
+  pub line_of-fits : (n : ℕ) (xs s ys : List ℕ) → length xs ≡ longest → n + length s ≤ longest → take (n + length s) ys ≡ take n xs ++ s
+      → line_of longest (n + length s) ys ≡ more_by longest (line_of longest n xs) s
+  line_of-fits n xs s ys e h t =
+      let a : n ≤ longest = omega arith in
+      let b : length (take n xs) ≡ n = length-take-le n xs (omega arith) in
+      rw (le-leb (n + length s) longest h, le-leb n longest a) (ap kept t ∙ sym (more_by-kept (take n xs) s (omega arith)))
+
+  -- there is none
+  pub line_of-long : (n : ℕ) (xs s ys : List ℕ) → length xs ≡ longest → longest < n + length s → line_of longest (longest + 1) ys ≡ more_by longest (line_of longest n xs) s
+  line_of-long n xs s ys e h = rw (lt-leb (longest + 1) longest (omega arith)) (sym (by (leb n longest) refl))
+    where
+      by : (b : Bool) → leb n longest ≡ b → more_by longest (cond b (kept (take n xs)) over) s ≡ over
       by true p =
-          let d : k ≤ length line = omega (arith, leb-true k longest p) in
-          rw (length-take-le k line d, le-ltb k longest h)
-      by false p = refl
+          let a : n ≤ longest = leb-true n longest p in
+          let b : length (take n xs) ≡ n = length-take-le n xs (omega arith) in
+          more_by-long (take n xs) s (omega arith) (omega arith)
+      by false p = more_by-over s
+
+  -- characters without an LF are taken for the line
+  scan-by : (l : LineSoFar) (s rest : List ℕ) → All (λ c. c ≢ 10) s → scan longest l (s ++ rest) ≡ scan longest (more_by longest l s) rest
+  unfolding scan
+  scan-by l [] rest a = refl
+  scan-by l (c ∷ s) rest a = rw (ne_eqb c 10 (a 0 0 (omega arith))) (scan-by (more longest l c) s rest (λ k d h. a (suc k) d (omega arith)))
+
+  -- the first n characters of a text, none of them an LF
+  pub scan-first : (l : LineSoFar) (s : List ℕ) (n : ℕ) → All (λ c. c ≢ 10) (take n s) → scan longest l s ≡ scan longest (more_by longest l (take n s)) (drop n s)
+  scan-first l s n a =
+      ap (scan longest l) (sym (take-append-drop n s))
+      ∙ scan-by l (take n s) (drop n s) a

@@ -1,2 +1,2 @@
--- What this crate's answers say of the buffers that are lent with a call. Lines themselves are those of `lines`.
-pub mod Buffers
+-- What this crate's answers say of an open line. Lines themselves are those of `lines`.
+pub mod Open

@@ -1,93 +1,110 @@
 // Lines of hexadecimal: a line is gathered from chunks of input, and read as the frame that it stands for.
 //
-// A line is kept in a buffer that is as long as the longest line that counts. One that has more characters is kept as a count of one more.
+// A line that is still open is kept in an array as long as the longest line that counts. One that has more characters is kept as a
+// count of one more.
 #![tactic(auto)]
 
-ghost use Rattle.std.specs.Prelude.{◌≡◌, List, ℕ, ◌+◌, ◌*◌, ◌≤◌, ◌<◌, length, take, drop};
-ghost use Rattle.lines.specs.Lines.{line_of, scan, frame_of_line};
-ghost use Rattle.hexline.specs.Buffers.{scanned, Stopped};
+ghost use Rattle.std.specs.Prelude.{◌≡◌, ◌≢◌, ◌*◌, ◌≤◌, ◌<◌, IfSome, All, [], length, take, drop, get_or};
+ghost use Rattle.lines.specs.Lines.{kept, scan, frame_of_line};
+ghost use Rattle.hexline.specs.Open.{count_of, more_by, scanned};
 
-use hexdigits::Decoded;
+use std::marker::Model;
 
-// Where a scan of a chunk stopped: `at` is past the LF or at the chunk's end, and `n` is what is kept of the line.
+// A line that is still open, of which at most N characters count: the characters that came so far, and how many, or N + 1 for any
+// number above N.
 #[derive(Drop)]
-pub struct Gathered {
-    pub at: usize,
-    pub n: usize,
-    pub ended: bool,
+pub struct OpenLine<const N: usize> {
+    characters: [u8; N],
+    count: usize,
 }
 
-// Goes on to the next LF, or to the chunk's end, with a line that is full: any other character makes it too long.
-fn skip(chunk: &[u8], from: usize, n: usize, longest: usize) -> Gathered
-    requires { (from ≤ length chunk.now) × (longest ≤ n) × (n ≤ longest + 1) × (longest < 65536) }
-    ensures stopped { Stopped longest from (length chunk.now) result }
-    ensures by_index { (line : List ℕ) → length line ≡ longest → scanned longest result line chunk.now ≡ scan longest (line_of longest n line) (drop from chunk.now) }
+// Clauses see the line so far.
+impl<const N: usize> Model for OpenLine<N> {
+    ghost use Rattle.std.specs.Prelude.{◌+◌, ◌≤◌, ◌<◌};
+    ghost use Rattle.lines.specs.Lines.{LineSoFar, line_of};
+
+    ghost Value = { LineSoFar };
+
+    ghost view = { λ o. line_of N o.count o.characters };
+
+    ghost invariant = { (λ o. (o.count ≤ N + 1) × (N < 65536)) };
+}
+
+// How many characters come before the first LF, or all.
+fn before_line_feed(s: &[u8]) -> usize
+    ensures within { result ≤ length s.now }
+    ensures before { All (λ c. c ≢ 10) (take result s.now) }
+    ensures found { result < length s.now → get_or s.now result 0 ≡ 10 }
 {
-    let mut i = from;
-    let mut k = n;
-    while i < chunk.len() {
-        let c = chunk[i];
-        i += 1;
-        if c == 10 {
-            return Gathered {
-                at: i,
-                n: k,
-                ended: true,
-            };
+    s.iter().position(|c| *c == b'\n').unwrap_or(s.len())
+}
+
+impl<const N: usize> OpenLine<N> {
+    // A line of no characters.
+    pub fn new() -> Self
+        requires { N < 65536 }
+        ensures { result ≡ kept [] }
+    {
+        OpenLine {
+            characters: [0; N],
+            count: 0,
         }
-        k = longest + 1;
     }
-    Gathered {
-        at: i,
-        n: k,
-        ended: false,
-    }
-}
 
-// Takes the characters of chunk from index `from` up to the next LF, or to the chunk's end, into the line of n characters.
-pub fn gather(chunk: &[u8], from: usize, n: usize, line: &mut [u8]) -> Gathered
-    requires { (from ≤ length chunk.now) × (n ≤ length line.old + 1) × (length line.old < 65536) }
-    ensures stopped { Stopped (length line.old) from (length chunk.now) result }
-    ensures chunk_after { scanned (length line.old) result line.new chunk.now ≡ scan (length line.old) (line_of (length line.old) n line.old) (drop from chunk.now) }
-{
-    let longest = line.len();
-    let mut i = from;
-    let mut k = n;
-    while (i < chunk.len()) & (k < longest) {
-        let c = chunk[i];
-        i += 1;
-        if c == 10 {
-            return Gathered {
-                at: i,
-                n: k,
-                ended: true,
-            };
+    // How many characters there are, or N + 1 for any number above N.
+    pub fn count(&self) -> usize
+        ensures { result ≡ count_of N self.now }
+    {
+        self.count
+    }
+
+    // The next line begins.
+    pub fn clear(&mut self)
+        ensures { self.new ≡ kept [] }
+    {
+        self.count = 0;
+    }
+
+    // Takes more characters.
+    fn append(&mut self, s: &[u8])
+        ensures { self.new ≡ more_by N self.old s.now }
+    {
+        let n = self.count;
+        if n + s.len() <= N {
+            let characters = &mut self.characters[..];
+            characters[n..n + s.len()].copy_from_slice(s);
+            self.count += s.len();
+        } else {
+            self.count = N + 1;
         }
-        line[k] = c;
-        k += 1;
     }
-    if k < longest {
-        return Gathered {
-            at: i,
-            n: k,
-            ended: false,
-        };
-    }
-    skip(chunk, i, k, longest)
-}
 
-// The frame that a line of n characters stands for: how many bytes of `frame` it has.
-pub fn frame_of(line: &[u8], n: usize, frame: &mut [u8]) -> usize
-    requires { length line.now ≤ 2 * length frame.old }
-    ensures upper_bound { result ≤ length frame.old }
-    ensures frame_after { take result frame.new ≡ frame_of_line (line_of (length line.now) n line.now) }
-{
-    if line.len() < n {
-        return 0;
+    // Takes the characters of chunk from index `from` up to the next LF, or to the chunk's end: answers the index past the LF, if there
+    // is one.
+    pub fn gather(&mut self, chunk: &[u8], from: usize) -> Option<usize>
+        requires { from ≤ length chunk.now }
+        ensures in_chunk { IfSome result (λ at. (from < at) × (at ≤ length chunk.now)) }
+        ensures chunk_after { scanned result self.new chunk.now ≡ scan N self.old (drop from chunk.now) }
+    {
+        let rest = &chunk[from..];
+        let n = before_line_feed(rest);
+        self.append(&rest[..n]);
+        if n < rest.len() {
+            Some(from + n + 1)
+        } else {
+            None
+        }
     }
-    let d = hexdigits::decode(&line[..n], frame);
-    match d {
-        Decoded::Bytes(k) => k,
-        Decoded::Faulty => 0,
+
+    // The frame that the line stands for: how many bytes of `frame` it has.
+    pub fn frame(&self, frame: &mut [u8]) -> usize
+        requires { N ≤ 2 * length frame.old }
+        ensures upper_bound { result ≤ length frame.old }
+        ensures frame_after { take result frame.new ≡ frame_of_line self.now }
+    {
+        if N < self.count {
+            return 0;
+        }
+        hexdigits::decode(&self.characters[..self.count], frame).unwrap_or(0)
     }
 }

@@ -6,11 +6,12 @@ use Prim.Native.Nat.{ℕ, suc, ◌+◌, ◌-◌, ◌*◌, ◌≤◌, ◌<◌}
 use native.Mathlib.Numerals.{add-one}
 use native.Mathlib.Omega.{arith}
 use lib.Dec.{ltb}
-use lib.ListN.{length, take, drop, get_or, set, length-set, length-append}
-use lib.Seq.{drop-cons, length-take-le, take-add, drop-drop, take_at}
+use lib.ListN.{length, take, drop, get_or, set, length-set, length-append, length-drop}
+use lib.Seq.{drop-cons, length-take-le, take-add, drop-drop, take_at, take_all}
 use borrow.Author.Tests.{lt-ltb, ltb-true}
 use Rattle.lines.specs.Hex.{Read, bytes, faulty_text, front, bytes_in_front, pair, read_hex, value_of}
 use Rattle.hexdigits.proofs.HexDigits.{fronts-none, stored}
+use Rattle.std.specs.Array.{IsFirstChunk}
 use Rattle.hexrun.specs.Reading.{Reading}
 
 -- what two characters and a rest that stand for bytes are: two digits, and a rest that stands for bytes
@@ -46,9 +47,9 @@ read_behind (a ∷ b ∷ l) t xs e =
     rw (d.all, read_behind l t d.others d.rest, lt-ltb (value_of a) 16 d.high, lt-ltb (value_of b) 16 d.low) (in_front_lem (value_of a * 16 + value_of b) d.others (read_hex t))
 
 -- nothing read yet
-pub reading-none : (from : ℕ) (chunk frame : List ℕ) → from ≤ length chunk → Reading from 0 chunk frame
+pub reading_none : (from : ℕ) (chunk frame : List ℕ) → from ≤ length chunk → Reading from 0 chunk frame
 unfolding read_hex
-reading-none from chunk frame h = record { within = omega arith; short = omega arith; read = refl }
+reading_none from chunk frame h = record { within = omega arith; short = omega arith; read = refl }
 
 -- m bytes more
 pub reading-more : (from n m : ℕ) (chunk frame frame' o : List ℕ) → Reading from n chunk frame → from + 2 * n + 2 * m ≤ length chunk → n + m ≤ length frame'
@@ -67,28 +68,30 @@ reading-more from n m chunk frame frame' o r h k e f =
     }
 
 -- a pair of digits
-read-pair : (s : List ℕ) (i h l : ℕ) → i + 1 < length s → h ≡ value_of (get_or s i 0) → l ≡ value_of (get_or s (i + 1) 0) → h < 16 → l < 16
-    → read_hex (take 2 (drop i s)) ≡ bytes ((h * 16 + l) ∷ [])
+read-pair : (s : List ℕ) (i b : ℕ) → i + 1 < length s → ((r : Read) → pair (value_of (get_or s i 0)) (value_of (get_or s (i + 1) 0)) r ≡ front b r)
+    → read_hex (take 2 (drop i s)) ≡ bytes (b ∷ [])
 unfolding read_hex
-read-pair s i h l a eh el th tl =
+read-pair s i b a e =
     let p : i < length s = omega arith in
     let q : suc i < length s = omega arith in
-    let el' : l ≡ value_of (get_or s (suc i) 0) = el ∙ ap (λ (x : ℕ). value_of (get_or s x 0)) (add-one i) in
-    rw (drop-cons s i 0 p, drop-cons s (suc i) 0 q, ← eh, ← el', lt-ltb h 16 th, lt-ltb l 16 tl)
+    let e' : pair (value_of (get_or s i 0)) (value_of (get_or s (suc i) 0)) (bytes []) ≡ bytes (b ∷ []) = rw add-one at (e (bytes [])) in
+    rw (drop-cons s i 0 p, drop-cons s (suc i) 0 q) e'
 
-pub reading-pair : (from n h l : ℕ) (chunk frame : List ℕ) → Reading from n chunk frame → from + 2 * n + 1 < length chunk → n < length frame
-    → h ≡ value_of (get_or chunk (from + 2 * n) 0) → l ≡ value_of (get_or chunk (from + 2 * n + 1) 0) → h < 16 → l < 16
-    → Reading from (n + 1) chunk (set frame n (h * 16 + l))
-reading-pair from n h l chunk frame r a b eh el th tl =
-    reading-more from n 1 chunk frame (set frame n (h * 16 + l)) ((h * 16 + l) ∷ []) r (omega arith) (simp length-set (omega arith)) (read-pair chunk (from + 2 * n) h l a eh el th tl) (stored frame n (h * 16 + l) b)
+pub reading-pair : (from n b : ℕ) (chunk frame : List ℕ) → Reading from n chunk frame → from + 2 * n + 1 < length chunk → n < length frame
+    → ((r : Read) → pair (value_of (get_or chunk (from + 2 * n) 0)) (value_of (get_or chunk (from + 2 * n + 1) 0)) r ≡ front b r)
+    → Reading from (n + 1) chunk (set frame n b)
+reading-pair from n b chunk frame r h k e =
+    reading-more from n 1 chunk frame (set frame n b) (b ∷ []) r (omega arith) (simp length-set (omega arith)) (read-pair chunk (from + 2 * n) b h e) (stored frame n b k)
 
 -- a block of 16 bytes more, with any tail behind it
-pub reading_block : (from n w : ℕ) (chunk frame o tail : List ℕ) → Reading from n chunk frame → from + 2 * n + 32 ≤ length chunk → n ≤ length frame → length o ≡ 16 → w ≡ 32
-    → read_hex (take w (drop (from + 2 * n) chunk)) ≡ bytes o
+pub reading_block : (from n : ℕ) (chunk frame text o tail : List ℕ) → Reading from n chunk frame
+    → IsFirstChunk (take (length chunk - (from + 2 * n)) (drop (from + 2 * n) chunk)) text 32 → n ≤ length frame → length o ≡ 16 → read_hex text ≡ bytes o
     → Reading from (n + 16) chunk (take n frame ++ (o ++ tail))
-reading_block from n w chunk frame o tail r h b l ew e =
-    reading-more from n 16 chunk frame (take n frame ++ (o ++ tail)) o r h (simp length-append (omega (arith, length-take-le n frame b))) (rw ew at e)
-    (ap (take (n + 16)) (sym (append_assoc (take n frame) o tail)) ∙ take_at (take n frame ++ o) tail (n + 16) (simp length-append (omega (arith, length-take-le n frame b))))
-
-pub less : (n : ℕ) → n + 16 - n ≡ 16
-less n = omega arith
+reading_block from n chunk frame text o tail r f b l e =
+    let rest : take (length chunk - (from + 2 * n)) (drop (from + 2 * n) chunk) ≡ drop (from + 2 * n) chunk =
+    take_all _ _ (omega (arith, length-drop (from + 2 * n) chunk)) in
+    let room : 32 ≤ length (drop (from + 2 * n) chunk) = rw rest at f.enough in
+    let front : length (take n frame) ≡ n = length-take-le n frame b in
+    reading-more from n 16 chunk frame (take n frame ++ (o ++ tail)) o r (omega (arith, length-drop (from + 2 * n) chunk)) (simp length-append (omega arith))
+    (sym (ap read_hex (f.same ∙ ap (take 32) rest)) ∙ e)
+    (ap (take (n + 16)) (sym (append_assoc (take n frame) o tail)) ∙ take_at (take n frame ++ o) tail (n + 16) (simp length-append (omega arith)))

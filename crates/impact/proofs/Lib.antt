@@ -1,3 +1,3 @@
 -- The laws of this crate that no function is named for.
 pub mod Readings
-pub mod Window
+pub mod Comparisons

@@ -1,2 +1,2 @@
--- Laws of what a read brings.
+-- What is answered at the end of the input.
 pub mod Arriving

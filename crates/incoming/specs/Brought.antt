@@ -1,6 +1,6 @@
 -- What a read brings, and what of it is answered.
 -- Assumes nothing.
-use Rattle.std.specs.Prelude.{ℕ, zero, suc, min, Bool, true, false, cond, List, [], ◌∷◌, eqb, ℤ, pos, negsuc, length, take}
+use Rattle.std.specs.Prelude.{ℕ, zero, suc, min, Bool, true, false, cond, List, [], ◌∷◌, eqb, ℤ, pos, negsuc, length, take, Option, Some, None}
 
 -- what a read brings: bytes, the end of the input, or nothing, because it failed
 pub data Brought : Type 0 where
@@ -13,6 +13,11 @@ abbrev pub brought : ℤ → List ℕ → Brought
 brought (negsuc k) chunk = failed
 brought (pos zero) chunk = the_end
 brought (pos (suc k)) chunk = input (take (min (suc k) (length chunk)) chunk)
+
+-- a read's answer as that number: how many bytes it brought, and below zero where it failed or was interrupted
+abbrev pub count_read : Option ℕ → ℤ
+count_read (Some n) = pos n
+count_read None = negsuc 0
 
 -- whether there may be more
 abbrev pub brings : Brought → Bool

@@ -18,8 +18,8 @@ lay_more s i n t k x j h =
     rw (e, d, ← add_assoc i j 1, ← add_assoc n j 1, ← drop-drop 118 (118 * j) x)
 
 -- all pieces are laid, and the numbers that the code read are the bytes'
-pub queued-end : (s : List ℕ) (t k : ℕ) (x l : List ℕ) (first waiting n at m : ℕ) → l ≡ laid s (first + waiting) n t k x
+pub queued_end : (s : List ℕ) (t k : ℕ) (x l : List ℕ) (first waiting n at m : ℕ) → l ≡ laid s (first + waiting) n t k x
     → first ≡ first_in s → waiting ≡ waiting_in s → n ≡ be16 s at → at ≡ count_at t → m ≡ (n + k) % 65536
     → put (put l waiting_at ((waiting + k) ∷ [])) at (bytes16 m) ≡ queued_on s t k x
 unfolding queued_on
-queued-end s t k x l first waiting n at m done f w c a e = rw (e, done, c, a, w, f)
+queued_end s t k x l first waiting n at m done f w c a e = rw (e, done, c, a, w, f)

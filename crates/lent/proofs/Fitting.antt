@@ -41,8 +41,8 @@ module _ (bytes mark : ℕ) (s : List ℕ) where
 pub other_high : (a b mark : ℕ) → b < 256 → (a ≡ mark / 256 → ⊥) → eqb (a * 256 + b) mark ≡ false
 other_high a b mark h d = ne_eqb (a * 256 + b) mark (λ e. d (omega arith))
 
-pub same-high : (a b mark : ℕ) → b < 256 → a ≡ mark / 256 → eqb b (mark % 256) ≡ eqb (a * 256 + b) mark
-same-high a b mark h e = at (eqb b (mark % 256)) refl
+pub same_high : (a b mark : ℕ) → b < 256 → a ≡ mark / 256 → eqb b (mark % 256) ≡ eqb (a * 256 + b) mark
+same_high a b mark h e = at (eqb b (mark % 256)) refl
   where
     at : (t : Bool) → eqb b (mark % 256) ≡ t → t ≡ eqb (a * 256 + b) mark
     at true p = sym (eq-eqb (a * 256 + b) mark (omega (arith, eqb-true b (mark % 256) p)))

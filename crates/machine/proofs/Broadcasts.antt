@@ -9,7 +9,7 @@ use lib.Dec.{leb}
 use lib.ListN.{length}
 use Rattle.wire.specs.Wire.{be16, bytes16, put, raised_on}
 use Rattle.wire.proofs.Runs.{get_or-put_inside, be16-put_inside, be16-bytes16}
-use Rattle.clock.proofs.Numbers.{nibble-mode, nibble-locked, nibble-small}
+use Rattle.modes.proofs.Numbers.{nibble-mode, nibble-locked, nibble-small}
 use Rattle.paper.specs.Frames.{Channel}
 use Rattle.paper.specs.Clock.{seconds}
 use Rattle.paper.specs.Mode.{Mode, nibble, same, ruled}

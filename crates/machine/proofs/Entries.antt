@@ -13,7 +13,7 @@ use Rattle.wire.specs.Wire.{be16, bytes16, put}
 use Rattle.wire.proofs.Runs.{length-put, get_or-put_before, get_or-put_inside, be16-put_inside, be24-put_inside, be16-put-same, be16-bytes16, be24-bytes24}
 use Rattle.impact.specs.Window.{window_of}
 use Rattle.packing.specs.Words.{words_of}
-use Rattle.clock.proofs.Numbers.{number-mode_of, nibble_back}
+use Rattle.modes.proofs.Numbers.{number-mode_of, nibble_back}
 use Rattle.paper.specs.Clock.{seconds, now}
 use Rattle.paper.specs.Mode.{mode_of, number, same, proximity, Standing, entered}
 use Rattle.paper.specs.Impact.{Impact, no_comparison, no_reading}

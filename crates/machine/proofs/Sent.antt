@@ -24,8 +24,8 @@ use Rattle.machine.specs.Built.{sent_on, housekept_on, impact_record_on, stamp_i
 use Rattle.machine.proofs.Queue.{queue-length, queued-view}
 
 -- the test for room, by the bytes
-pub crowded-bytes : (s : List ℕ) (t : ℕ) → ltb 48 (waiting_in s + pieces t) ≡ crowded (view s) t
-crowded-bytes s t = at (ltb 48 (waiting_in s + pieces t)) refl
+pub crowded_bytes : (s : List ℕ) (t : ℕ) → ltb 48 (waiting_in s + pieces t) ≡ crowded (view s) t
+crowded_bytes s t = at (ltb 48 (waiting_in s + pieces t)) refl
   where
     most : waiting_in s ≤ 48
     most = capped_most 48 (get_or s waiting_at 0)
@@ -36,7 +36,7 @@ crowded-bytes s t = at (ltb 48 (waiting_in s + pieces t)) refl
 
 -- where it is not crowded, there is room
 pub free-room : (s : List ℕ) (t : ℕ) → crowded (view s) t ≡ false → Free s t
-free-room s t h = ltb-false 48 (waiting_in s + pieces t) (crowded-bytes s t ∙ h)
+free-room s t h = ltb-false 48 (waiting_in s + pieces t) (crowded_bytes s t ∙ h)
 
 -- a filled packet is long enough for its pieces
 pub filled-long : (k : ℕ) (x : List ℕ) → 118 * k ≤ length (filled k x)

@@ -15,11 +15,11 @@ use lib.ListN.{length, drop, get_or}
 use borrow.Author.Tests.{ltb-true, leb-true, leb-false, ne_eqb}
 use Rattle.wire.specs.Wire.{be16, be24, bytes16, bytes24, put}
 use Rattle.wire.proofs.Runs.{length-put, get_or-put_before, get_or-put_inside, be24-put_inside, be16-put-same, be24-bytes24}
-use Rattle.clock.proofs.Numbers.{number-mode_of, nibble_back}
+use Rattle.modes.proofs.Numbers.{number-mode_of, nibble_back}
 use Rattle.impact.specs.Window.{window_of, window_after}
 use Rattle.packing.specs.Words.{words_of}
 use Rattle.packing.proofs.Packing.{words_of-append, words_of-put_before, words_of-put-after}
-use Rattle.impact.proofs.Window.{window_of-moved}
+use Rattle.impact.proofs.Comparisons.{window_moves}
 use Rattle.paper.specs.Clock.{seconds_of, ticked, now}
 use Rattle.paper.specs.Mode.{surface, mode_of, nibble}
 use Rattle.paper.specs.Impact.{above, declares, rung, Stamp, Impact}
@@ -232,7 +232,7 @@ module _ (s : List ℕ) (r : ℕ) (f : Whole s) (b : r < 4096) where
   taken-impact =
       let p = taken-same flag_at window_at (inl (omega arith)) (inl (omega arith)) in
       let q = taken-same further_at commands_at (inr (omega arith)) (inl (omega arith)) in
-      let window = ap window_of taken-window ∙ window_of-moved (window_in s) (above r) in
+      let window = ap window_of taken-window ∙ window_moves (window_in s) (above r) in
       λ i.
       record {
         flag = eqb (p.byte flag_at (omega arith) (omega arith) i) 1;

@@ -17,7 +17,7 @@ use Rattle.lent.specs.Told.{told}
 use Rattle.paper.specs.Controller.{Controller}
 use Rattle.paper.specs.Acts.{noted}
 use Rattle.state.specs.Range.{Whole}
-use Rattle.machine.specs.Obeyed.{noted_on, erred_on, performed_on}
+use Rattle.machine.specs.Obeyed.{noted_on, erred_on, obeyed_on, performed_on}
 use Rattle.machine.specs.Called.{acted_on, refused_on, left_on, told_on}
 use Rattle.machine.proofs.Queue.{queue-length}
 use Rattle.machine.proofs.Counts.{noted-view}
@@ -96,9 +96,9 @@ module _ (s : List ℕ) (cc : Channel) (id sequence : ℕ) (parameters : List �
   crowds q e t = rw (reply_by (request q) e, t)
 
   pub takes : (q : Request) → decoded id parameters ≡ request q → (queues (request q) && crowded (view s) hk) ≡ false
-      → told 0 (performed_on (noted_on s cc id sequence) (decoded id parameters)) ≡ told_on s asks 126
-  unfolding told_on left_on acted_on
-  takes q e t = rw (reply_by (request q) e, t)
+      → told 0 (obeyed_on (noted_on s cc id sequence) q) ≡ told_on s asks 126
+  unfolding told_on left_on acted_on performed_on
+  takes q e t = rw (reply_by (request q) e, t, e)
 
 -- noting a command leaves how many pieces wait
 pub noted_waits : (s : List ℕ) → Whole s → (cc : Channel) (id sequence : ℕ) → waiting_in (noted_on s cc id sequence) ≡ waiting_in s

@@ -1,10 +1,11 @@
 // Frame 02, a command: decoded to a request with its fields or a refusal, and obeyed.
 #![tactic(auto)]
 
-ghost use Rattle.std.specs.Prelude.{◌≡◌, ℕ, ◌<◌, ◌≤◌, length, drop};
+ghost use Rattle.std.specs.Prelude.{◌≡◌, ◌≤◌, length, drop};
 ghost use Rattle.wire.specs.Wire.{be16};
 ghost use Rattle.paper.specs.Commands as Commands;
 ghost use Rattle.paper.specs.Step.{queues};
+ghost use Rattle.replies.specs.Numbers.{reply};
 ghost use Rattle.frames.specs.declared.Kind.TheVariants.{Command};
 ghost use Rattle.frames.specs.Meaning as Meaning;
 ghost use Rattle.command.specs.Meaning.{asked, meant};
@@ -12,9 +13,10 @@ ghost use Rattle.state.specs.Range.{Whole};
 ghost use Rattle.lent.specs.Told.{told};
 ghost use Rattle.machine.specs.Called.{told_on};
 
-use command::{Decoded, Request};
+use command::Request;
 use frames::Side;
-use streams::HK;
+use replies::Refusal;
+use streams::Stream;
 
 // Whether a request queues a packet.
 fn queues_packet(request: Request) -> bool
@@ -28,33 +30,30 @@ fn queues_packet(request: Request) -> bool
 }
 
 // What the command of a frame comes to.
-fn decode(f: &[u8]) -> Decoded
+fn decode(f: &[u8]) -> Result<Request, Refusal>
     requires { 6 ≤ length f.now }
-    ensures { (meant result ≡ Commands.decoded (be16 f.now 2) (drop 6 f.now)) × ((v : ℕ) → meant result ≡ Commands.request (Commands.set_mode v) → v < 16) }
+    ensures { meant result ≡ Commands.decoded (be16 f.now 2) (drop 6 f.now) }
 {
-    let id = wire::get16(f, 2);
-    if f.len() == 8 {
-        return command::decode(id, 2, wire::get16(f, 6));
-    }
-    command::decode(id, f.len() - 6, 0)
+    command::decode(wire::get(f, 2), &f[6..])
 }
 
 // The reply to a command.
-pub fn frame(s: &mut [u8], side: Side, f: &[u8]) -> u8
+#[tactic(auto, using(crate::proofs::CommandReply::refuses, crate::proofs::CommandReply::crowds, crate::proofs::CommandReply::takes))]
+pub fn frame(s: &mut [u8], side: Side, f: &[u8]) -> Result<(), Refusal>
     requires { (Whole s.old) × (6 ≤ length f.now) }
-    ensures { told result s.new ≡ told_on s.old (Meaning.meant (Command side) f.now) 126 }
+    ensures { told (reply result) s.new ≡ told_on s.old (Meaning.meant (Command side) f.now) 126 }
 {
     let decoded = decode(f);
-    let Decoded::Act(request) = decoded else {
-        let reply = command::refusal(decoded);
-        obeyed::err(s, side, reply);
-        return reply;
+    let Ok(request) = decoded else {
+        let refusal = decoded.unwrap_err();
+        obeyed::err(s, side, refusal);
+        return Err(refusal);
     };
-    if queues_packet(request) & slots::crowded(s, HK) {
-        obeyed::err(s, side, 7);
-        return 7;
+    if queues_packet(request) & slots::crowded(s, Stream::Hk) {
+        obeyed::err(s, side, Refusal::NoRoom);
+        return Err(Refusal::NoRoom);
     }
-    obeyed::note(s, side, wire::get16(f, 2), wire::get16(f, 4));
+    obeyed::note(s, side, wire::get(f, 2), wire::get(f, 4));
     obeyed::obey(s, request);
-    0
+    Ok(())
 }

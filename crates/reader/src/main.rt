@@ -5,16 +5,14 @@
 // no digits; a wrong ID, wrong top sequence bits and a wrong length; a stream that is not carried; a DEN packet whose last fill byte
 // is wrong, the right one then a repeat, and the next one whole, in small letters; an impact record of seven pieces, its last line
 // without an LF.
+//
+// The main of program bench differs from this one in usage and machine alone: they share `console`.
 #![tactic(auto)]
 
 use console::Streams;
 
 fn main(rt: HostRuntime) {
-    let streams = Streams {
-        input: rt.stdin(),
-        output: rt.stdout(),
-        errors: rt.stderr(),
-    };
+    let streams = Streams::standard(&rt);
     if console::explained(
         &rt,
         streams,

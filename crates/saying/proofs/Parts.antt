@@ -4,7 +4,7 @@ use mathlib.Core.List.{List, [], ◌++◌, append_assoc}
 use Prim.Native.Nat.{ℕ, ◌+◌, ◌≤◌}
 use native.Mathlib.Omega.{arith}
 use lib.ListN.{length, length-append, drop}
-use Rattle.lines.specs.Lines.{LineSoFar, line_of}
+use Rattle.lines.specs.Lines.{LineSoFar}
 use Rattle.lines.specs.Talk.{Way, Talk, talk}
 use Rattle.lines.proofs.Talk.{talk-text}
 use Rattle.programs.specs.Programs.{longest}
@@ -29,7 +29,7 @@ module _ (a : Way) where
       omega arith
 
 -- in the midst of a chunk, at index `at`: the text that the output took so far, `said` bytes, and what is still to come behind it
-pub record SoFar (m : Machine) (k : Talk) (at n said : ℕ) (chunk line state : List ℕ) : Type 0 where
+pub record SoFar (m : Machine) (k : Talk) (at said : ℕ) (chunk : List ℕ) (line : LineSoFar) (state : List ℕ) : Type 0 where
   pub text : List ℕ
   pub count : length text ≡ said
-  pub rest : talk longest (answer_to m) text (line_of longest n line) state (drop at chunk) ≡ k
+  pub rest : talk longest (answer_to m) text line state (drop at chunk) ≡ k

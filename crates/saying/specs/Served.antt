@@ -1,25 +1,16 @@
--- What is to come of a chunk, done; and the buffers for it.
+-- What is to come of a chunk, done.
 -- Assumes nothing.
-use Rattle.std.specs.Prelude.{ℕ, ◌+◌, ◌≤◌, ◌<◌, ◌≡◌, true, false, List, length}
-use Rattle.lines.specs.Lines.{line_of}
+use Rattle.std.specs.Prelude.{ℕ, ◌<◌, ◌≡◌, List, length, Result, Ok, Err}
+use Rattle.lines.specs.Lines.{LineSoFar}
 use Rattle.lines.specs.Talk.{Talk}
-use Rattle.programs.specs.Programs.{longest}
-use Rattle.answering.specs.Machines.{most_text}
-use Rattle.session.specs.Turns.{Buffers}
-use Rattle.saying.specs.declared.Work.{Work}
 
--- the buffers of the loop, n characters of a line being open
-pub record Room (n : ℕ) (chunk line frame out : List ℕ) : Type 0 where
-  pub buffers : Buffers n line frame
-  pub chunk_size : length chunk ≤ 65536
-  pub text : most_text ≤ length out
-  pub out_size : length out ≤ 65536
+-- the work did what was to come, k: the line and the state that it left are k's, and the output took all of k's text, `said` bytes
+pub record ServedAll (k : Talk) (line : LineSoFar) (state : List ℕ) (said : ℕ) : Type 0 where
+  pub line_left : line ≡ k.line
+  pub state_left : state ≡ k.state
+  pub all_said : said ≡ length k.text
 
--- the work w did what was to come, k: the line and the state that it left are k's, and the output took all of k's text; or the output
--- took less
-pub record Served (k : Talk) (line state : List ℕ) (w : Work) : Type 0 where
-  pub small : w.n ≤ longest + 1
-  pub line_left : w.whole ≡ true → line_of longest w.n line ≡ k.line
-  pub state_left : w.whole ≡ true → state ≡ k.state
-  pub all_said : w.whole ≡ true → w.said ≡ length k.text
-  pub less_said : w.whole ≡ false → w.said < length k.text
+-- so it did, or the output took less
+abbrev pub Served : Talk → LineSoFar → List ℕ → Result ℕ ℕ → Type 0
+Served k line state (Ok said) = ServedAll k line state said
+Served k line state (Err said) = said < length k.text

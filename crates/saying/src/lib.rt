@@ -1,18 +1,19 @@
 // What a chunk of input gets: each of its lines is answered, and the answers are written.
 //
-// What a write did is a count of bytes, no more: so `answer_all` promises how many bytes of text the output took, and `session::fill`
+// What a write did is a count of bytes, no more: so `answer_all` promises how many bytes of text the output took, and `Desk::fill`
 // which they are.
 #![tactic(auto)]
 
-ghost use Rattle.std.specs.Prelude.{◌≡◌, [], ◌≤◌, length};
-ghost use Rattle.lines.specs.Lines.{line_of};
+ghost use Rattle.std.specs.Prelude.{[], ◌≤◌, length};
 ghost use Rattle.lines.specs.Talk.{talk};
 ghost use Rattle.programs.specs.Programs.{longest};
-ghost use Rattle.answering.specs.Machines.{answer_to};
-ghost use Rattle.saying.specs.Served.{Room, Served};
+ghost use Rattle.answering.specs.Machines.{answer_to, most_text};
+ghost use Rattle.saying.specs.Served.{Served};
 
 use answering::Machine;
+use session::Desk;
 use std::io::{Print, Stderr, Stdin, Stdout};
+use text::Text;
 
 // The standard streams of a program.
 #[derive(Clone, Copy)]
@@ -22,17 +23,26 @@ pub struct Streams {
     pub errors: Stderr,
 }
 
-// What came of a chunk: the count of the line still open, how many bytes of text the output took, whether that was all of it, and
-// whether to read on.
-#[derive(Drop)]
-pub struct Work {
-    pub n: usize,
-    pub said: usize,
-    pub whole: bool,
-    pub on: bool,
+impl Streams {
+    // Those of a program that was given this.
+    pub fn standard(rt: &HostRuntime) -> Self {
+        Streams {
+            input: rt.stdin(),
+            output: rt.stdout(),
+            errors: rt.stderr(),
+        }
+    }
+}
+
+// A program that speaks for a machine.
+#[derive(Clone, Copy)]
+pub struct Program {
+    pub machine: Machine,
+    pub streams: Streams,
 }
 
 // Writes all of a text, and answers whether it was taken: it stops at the first write that takes nothing, fails or is interrupted.
+// std's method of this name goes on after an interruption.
 pub fn write_all(to: &impl Print, text: &[u8]) -> bool {
     let mut done = 0;
     while done < text.len() {
@@ -55,44 +65,29 @@ fn say(streams: Streams, text: &[u8]) -> usize
     0
 }
 
-// Answers the lines of a chunk, and writes the answers: whenever `out` is full, and at the end.
-pub fn answer_all(
-    streams: Streams,
-    machine: Machine,
+// Answers the lines of a chunk, and writes the answers: whenever the text is full, and at the end. Answers how many bytes of text the
+// output took, as an error where that was not all of it.
+pub fn answer_all<const N: usize>(
+    program: Program,
     chunk: &[u8],
-    n: usize,
-    line: &mut [u8],
-    frame: &mut [u8],
+    desk: &mut Desk,
     state: &mut [u8],
-    out: &mut [u8],
-) -> Work
-    requires { Room n chunk.now line.old frame.old out.old }
-    ensures served { Served (talk longest (answer_to machine) [] (line_of longest n line.old) state.old chunk.now) line.new state.new result }
-    ensures on_value { result.on ≡ result.whole }
+    text: &mut Text<N>,
+) -> Result<usize, usize>
+    requires { (length chunk.now ≤ 65536) × (most_text ≤ N) × (N ≤ 65536) }
+    ensures { Served (talk longest (answer_to program.machine) [] desk.old.line state.old chunk.now) desk.new.line state.new result }
 {
+    // from one full text to the next: by no count
     let mut at = 0;
-    let mut k = n;
     let mut said = 0;
     while at < chunk.len() {
-        let t = session::fill(machine, chunk, at, k, line, frame, state, out);
-        at = t.at;
-        k = t.n;
-        let used = t.used;
-        let took = say(streams, &out[..used]);
+        at = desk.fill(program.machine, chunk, at, state, text);
+        let due = text.as_bytes();
+        let took = say(program.streams, due);
         said += took;
-        if took < used {
-            return Work {
-                n: k,
-                said,
-                whole: false,
-                on: false,
-            };
+        if took < due.len() {
+            return Err(said);
         }
     }
-    Work {
-        n: k,
-        said,
-        whole: true,
-        on: true,
-    }
+    Ok(said)
 }

@@ -1,80 +1,83 @@
-// The library of programs bench and reader, on slices alone: chunks of input go in, and the text of the answers comes out. One
-// loop serves both.
+// The library of programs bench and reader, without a stream: chunks of input go in, and what the answers say is written into a text
+// that the caller owns. One loop serves both.
 #![tactic(auto)]
 
-ghost use Rattle.std.specs.Prelude.{◌+◌, ◌≤◌, length};
+ghost use Rattle.std.specs.Prelude.{◌≡◌, ◌+◌, ◌≤◌, ◌<◌, [], length};
+ghost use Rattle.lines.specs.Lines.{kept};
 ghost use Rattle.answering.specs.Machines.{most_text};
-ghost use Rattle.session.specs.Turns.{Buffers, GoesOn, Within};
+ghost use Rattle.session.specs.Turns.{GoesOn, Within};
 
 use answering::Machine;
+use hexline::OpenLine;
+use straight::Ended;
+use text::Text;
 
-// Where the work on a chunk stopped: the place in the chunk, the count of the line still open, and the bytes of text.
+// How many bytes of text the longest answer has.
+const MOST_TEXT: usize = 1556;
+
+// What a program works with, beside the state of its machine and the text of the answers: the line that is still open, room for the
+// frame of a line, and room for what the machine puts out. The text is a struct of its own: within this one, a byte of text might
+// change that room for all that the compiler knows, and reader took twice as many instructions.
 #[derive(Drop)]
-pub struct Turn {
-    pub at: usize,
-    pub n: usize,
-    pub used: usize,
+pub struct Desk {
+    pub line: OpenLine<1028>,
+    frame: [u8; 514],
+    output: [u8; 776],
 }
 
-// Goes on to the next LF, or to the chunk's end, and answers a line that ended.
-fn one(
-    machine: Machine,
-    chunk: &[u8],
-    from: usize,
-    n: usize,
-    line: &mut [u8],
-    frame: &mut [u8],
-    state: &mut [u8],
-    out: &mut [u8],
-    used: usize,
-) -> Turn
-    requires { (from ≤ length chunk.now) × (Buffers n line.old frame.old) × (used + most_text ≤ length out.old) }
-    ensures within { Within from (length chunk.now) used (length out.old) result }
-    ensures goes_on { GoesOn machine from n used result chunk.now line.old state.old out.old line.new state.new out.new }
-{
-    let stop = straight::next(chunk, from, n, line, frame);
-    let at = stop.at;
-    let kept = stop.n;
-    let size = stop.size;
-    if !stop.ended {
-        return Turn { at, n: kept, used };
-    }
-    // no character of the line is kept now, so its buffer is free
-    let more = answering::answer(machine, &frame[..size], line, state, out, used);
-    Turn {
-        at,
-        n: 0,
-        used: more,
-    }
-}
-
-// Answers lines until the chunk ends or `out` has no room for one more answer.
-// What is still to come from where it stopped, behind the text that it wrote, is what was to come where it began.
-pub fn fill(
-    machine: Machine,
-    chunk: &[u8],
-    from: usize,
-    n: usize,
-    line: &mut [u8],
-    frame: &mut [u8],
-    state: &mut [u8],
-    out: &mut [u8],
-) -> Turn
-    requires { (from ≤ length chunk.now) × (Buffers n line.old frame.old) × (most_text ≤ length out.old) }
-    ensures within { Within from (length chunk.now) 0 (length out.old) result }
-    ensures goes_on { GoesOn machine from n 0 result chunk.now line.old state.old out.old line.new state.new out.new }
-{
-    let mut at = from;
-    let mut k = n;
-    let mut used = 0;
-    while at < chunk.len() {
-        if out.len() - used < 1556 {
-            return Turn { at, n: k, used };
+impl Desk {
+    // With no line open.
+    pub fn new() -> Self
+        ensures { result.line ≡ kept [] }
+    {
+        Desk {
+            line: OpenLine::new(),
+            frame: [0; 514],
+            output: [0; 776],
         }
-        let t = one(machine, chunk, at, k, line, frame, state, out, used);
-        at = t.at;
-        k = t.n;
-        used = t.used;
     }
-    Turn { at, n: k, used }
+
+    // Goes on to the next LF, or to the chunk's end, and answers a line that ended: answers the place in the chunk where it stopped.
+    fn one<const N: usize>(
+        &mut self,
+        machine: Machine,
+        chunk: &[u8],
+        from: usize,
+        state: &mut [u8],
+        text: &mut Text<N>,
+    ) -> usize
+        requires { (from ≤ length chunk.now) × (length text.old + most_text ≤ N) }
+        ensures within { Within from (length chunk.now) result }
+        ensures goes_on { GoesOn machine from result chunk.now text.old self.old.line state.old text.new self.new.line state.new }
+    {
+        let found = straight::next(chunk, from, &mut self.line, &mut self.frame);
+        let Some(Ended { at, size }) = found else {
+            return chunk.len();
+        };
+        answering::answer(machine, &self.frame[..size], &mut self.output, state, text);
+        at
+    }
+
+    // Answers lines until the chunk ends or the text has no room for one more answer: answers the place in the chunk where it stopped.
+    // What is still to come from there, behind the text, is what was to come where it began.
+    pub fn fill<const N: usize>(
+        &mut self,
+        machine: Machine,
+        chunk: &[u8],
+        from: usize,
+        state: &mut [u8],
+        text: &mut Text<N>,
+    ) -> usize
+        requires { (from ≤ length chunk.now) × (most_text ≤ N) }
+        ensures within { Within from (length chunk.now) result }
+        ensures goes_on { GoesOn machine from result chunk.now [] self.old.line state.old text.new self.new.line state.new }
+    {
+        text.clear();
+        // from line to line: by no count
+        let mut at = from;
+        while at < chunk.len() && text.room() >= MOST_TEXT {
+            at = self.one(machine, chunk, at, state, text);
+        }
+        at
+    }
 }

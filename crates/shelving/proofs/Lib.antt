@@ -1,2 +1,2 @@
--- Fresh records.
+-- What fresh records rest on.
 mod Records

@@ -1,4 +1,5 @@
 // The C entries. Each calls the function of ssp that has its name, and states its clauses again; a slice is a pointer and a length.
+// Twins, since a crate is either a library of Rattle or an archive for C, and C has no Result and calls no generic function.
 #![tactic(auto)]
 
 ghost use Rattle.std.specs.Prelude.{◌≡◌};

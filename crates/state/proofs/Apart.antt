@@ -156,14 +156,14 @@ room s t h =
     record { small = r.small; few = few; fits = omega (arith, r.bytes, suc-mul (held_in s t) (width t)) }
 
 -- a number that an open packet can have is what it says
-pub held-byte : (s : List ℕ) (t n : ℕ) → get_or s (open_at t) 0 ≡ n → n < per_packet t → held_in s t ≡ n
+pub held_byte : (s : List ℕ) (t n : ℕ) → get_or s (open_at t) 0 ≡ n → n < per_packet t → held_in s t ≡ n
 unfolding held_in
-held-byte s t n e l = rw (e, lt-ltb n (per_packet t) l)
+held_byte s t n e l = rw (e, lt-ltb n (per_packet t) l)
 
 -- any other says nothing
-pub none-byte : (s : List ℕ) (t : ℕ) → per_packet t ≤ get_or s (open_at t) 0 → held_in s t ≡ 0
+pub none_byte : (s : List ℕ) (t : ℕ) → per_packet t ≤ get_or s (open_at t) 0 → held_in s t ≡ 0
 unfolding held_in
-none-byte s t l = rw (le-ltb (get_or s (open_at t) 0) (per_packet t) l)
+none_byte s t l = rw (le-ltb (get_or s (open_at t) 0) (per_packet t) l)
 
 -- past the last stream nothing is held
 none-held : (s : List ℕ) (t : ℕ) → (t < streams → ⊥) → held_in s t ≡ 0

@@ -1,11 +1,15 @@
 // The status words, each built by value from an empty one, a named bit at a time, in ascending order.
-// A and B have a type each, so that no name of the one's bits sets a bit of the other.
+// A and B have a type each, with a method for each named bit, so that no name of the one's bits sets a bit of the other: document
+// 01 names this form, so the methods are written out though their bodies are alike.
 #![tactic(auto)]
 
 ghost use Rattle.std.specs.Prelude.{◌≡◌, ◌<◌, ◌≤◌};
-ghost use Rattle.paper.specs.Mode.{Mode, number};
-ghost use Rattle.paper.specs.Status.{bit, bit_of, empty_with, flags_of, word_a, word_b};
+ghost use Rattle.paper.specs.Mode as paper;
+ghost use Rattle.paper.specs.Status.{bit_of, empty_with, flags_of, word_a, word_b};
+ghost use Rattle.modes.specs.Meaning.{mode_meant};
 ghost use Rattle.status.specs.Word.{Set, shown};
+
+use modes::Mode;
 
 // Document 01's flags of a status frame, from bit 0.
 const WATCHDOG_OK: u16 = 0;
@@ -49,13 +53,6 @@ fn bit_of(n: u16, k: u16) -> bool
     (n >> k) % 2 == 1
 }
 
-// What a bit weighs at the lowest place.
-fn weight(on: bool) -> u16
-    ensures { (result ≡ bit on) × (result ≤ 1) }
-{
-    on as u16
-}
-
 // Channel A's word. Each method asks that no bit is set yet from its own up, so the chain is in ascending order.
 #[derive(Drop)]
 pub struct WordA {
@@ -67,7 +64,9 @@ impl WordA {
     pub fn empty_with(low: u8) -> Self
         ensures { (result.bits ≡ empty_with low) × (result.bits < 256) }
     {
-        WordA { bits: low as u16 }
+        WordA {
+            bits: u16::from(low),
+        }
     }
 
     pub fn volts12_ok(self, on: bool) -> Self
@@ -75,7 +74,7 @@ impl WordA {
         ensures { Set self.bits on 8 result.bits }
     {
         WordA {
-            bits: self.bits + weight(on) * BIT_8,
+            bits: self.bits + u16::from(on) * BIT_8,
         }
     }
 
@@ -84,7 +83,7 @@ impl WordA {
         ensures { Set self.bits on 9 result.bits }
     {
         WordA {
-            bits: self.bits + weight(on) * BIT_9,
+            bits: self.bits + u16::from(on) * BIT_9,
         }
     }
 
@@ -93,7 +92,7 @@ impl WordA {
         ensures { Set self.bits on 10 result.bits }
     {
         WordA {
-            bits: self.bits + weight(on) * BIT_10,
+            bits: self.bits + u16::from(on) * BIT_10,
         }
     }
 
@@ -102,7 +101,7 @@ impl WordA {
         ensures { Set self.bits on 11 result.bits }
     {
         WordA {
-            bits: self.bits + weight(on) * BIT_11,
+            bits: self.bits + u16::from(on) * BIT_11,
         }
     }
 
@@ -111,7 +110,7 @@ impl WordA {
         ensures { Set self.bits on 12 result.bits }
     {
         WordA {
-            bits: self.bits + weight(on) * BIT_12,
+            bits: self.bits + u16::from(on) * BIT_12,
         }
     }
 
@@ -120,7 +119,7 @@ impl WordA {
         ensures { Set self.bits on 13 result.bits }
     {
         WordA {
-            bits: self.bits + weight(on) * BIT_13,
+            bits: self.bits + u16::from(on) * BIT_13,
         }
     }
 
@@ -129,7 +128,7 @@ impl WordA {
         ensures { Set self.bits on 14 result.bits }
     {
         WordA {
-            bits: self.bits + weight(on) * BIT_14,
+            bits: self.bits + u16::from(on) * BIT_14,
         }
     }
 
@@ -138,18 +137,18 @@ impl WordA {
         ensures { Set self.bits on 15 result.bits }
     {
         WordA {
-            bits: self.bits + weight(on) * BIT_15,
+            bits: self.bits + u16::from(on) * BIT_15,
         }
     }
 }
 
-// The word that channel A is answered with, in the mode that has the number.
-pub fn word_a(low: u8, flags: u8, impact: bool, mode: u8, commands: u16) -> u16
-    requires { mode < 8 }
-    ensures { (m : Mode) → number m ≡ mode → result ≡ word_a low (flags_of flags) (shown impact m commands) }
+// The word that channel A is answered with.
+#[tactic(auto, unfolding(paper::specs::Status::word_a))]
+pub fn word_a(low: u8, flags: u8, impact: bool, mode: Mode, commands: u16) -> u16
+    ensures { result ≡ word_a low (flags_of flags) (shown impact (mode_meant mode) commands) }
 {
-    let given = flags as u16;
-    let number = mode as u16;
+    let given = u16::from(flags);
+    let number = u16::from(u8::from(mode));
     WordA::empty_with(low)
         .volts12_ok(bit_of(given, VOLTS12_OK))
         .mode_bit_0(bit_of(number, 0))
@@ -173,7 +172,9 @@ impl WordB {
     pub fn empty_with(low: u8) -> Self
         ensures { (result.bits ≡ empty_with low) × (result.bits < 256) }
     {
-        WordB { bits: low as u16 }
+        WordB {
+            bits: u16::from(low),
+        }
     }
 
     pub fn nominal12v(self, on: bool) -> Self
@@ -181,7 +182,7 @@ impl WordB {
         ensures { Set self.bits on 8 result.bits }
     {
         WordB {
-            bits: self.bits + weight(on) * BIT_8,
+            bits: self.bits + u16::from(on) * BIT_8,
         }
     }
 
@@ -190,7 +191,7 @@ impl WordB {
         ensures { Set self.bits on 9 result.bits }
     {
         WordB {
-            bits: self.bits + weight(on) * BIT_9,
+            bits: self.bits + u16::from(on) * BIT_9,
         }
     }
 
@@ -199,7 +200,7 @@ impl WordB {
         ensures { Set self.bits on 10 result.bits }
     {
         WordB {
-            bits: self.bits + weight(on) * BIT_10,
+            bits: self.bits + u16::from(on) * BIT_10,
         }
     }
 
@@ -208,7 +209,7 @@ impl WordB {
         ensures { Set self.bits on 11 result.bits }
     {
         WordB {
-            bits: self.bits + weight(on) * BIT_11,
+            bits: self.bits + u16::from(on) * BIT_11,
         }
     }
 
@@ -217,7 +218,7 @@ impl WordB {
         ensures { Set self.bits on 12 result.bits }
     {
         WordB {
-            bits: self.bits + weight(on) * BIT_12,
+            bits: self.bits + u16::from(on) * BIT_12,
         }
     }
 
@@ -226,7 +227,7 @@ impl WordB {
         ensures { Set self.bits on 13 result.bits }
     {
         WordB {
-            bits: self.bits + weight(on) * BIT_13,
+            bits: self.bits + u16::from(on) * BIT_13,
         }
     }
 
@@ -235,7 +236,7 @@ impl WordB {
         ensures { Set self.bits on 14 result.bits }
     {
         WordB {
-            bits: self.bits + weight(on) * BIT_14,
+            bits: self.bits + u16::from(on) * BIT_14,
         }
     }
 
@@ -244,16 +245,17 @@ impl WordB {
         ensures { Set self.bits on 15 result.bits }
     {
         WordB {
-            bits: self.bits + weight(on) * BIT_15,
+            bits: self.bits + u16::from(on) * BIT_15,
         }
     }
 }
 
 // The word that channel B is answered with, whatever the mode.
+#[tactic(auto, unfolding(paper::specs::Status::word_b))]
 pub fn word_b(low: u8, flags: u8, impact: bool, commands: u16) -> u16
-    ensures { (mode : Mode) → result ≡ word_b low (flags_of flags) (shown impact mode commands) }
+    ensures { (mode : paper.Mode) → result ≡ word_b low (flags_of flags) (shown impact mode commands) }
 {
-    let given = flags as u16;
+    let given = u16::from(flags);
     WordB::empty_with(low)
         .nominal12v(bit_of(given, NOMINAL12V))
         .redundant12v(bit_of(given, REDUNDANT12V))

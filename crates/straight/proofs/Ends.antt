@@ -5,9 +5,9 @@ use Prim.Native.Nat.{ℕ, ◌+◌, ◌*◌, ◌≤◌, ◌<◌}
 use native.Mathlib.Omega.{arith}
 use lib.ListN.{length, take, drop, get_or, length-append, length-take, take-append-drop}
 use lib.Seq.{drop-drop}
-use borrow.Author.Tests.{le-leb, lt-ltb, ne_eqb}
+use borrow.Author.Tests.{lt-ltb, ne_eqb}
 use Rattle.lines.specs.Hex.{bytes, read_hex, value_of}
-use Rattle.lines.specs.Lines.{kept, line_of, scan, line_ended}
+use Rattle.lines.specs.Lines.{kept, scan, line_ended}
 use Rattle.hexline.proofs.HexLines.{scan-ended}
 use Rattle.hexrun.specs.Reading.{Reading}
 use Rattle.hexrun.proofs.Runs.{digits}
@@ -49,7 +49,3 @@ reading-ended longest from n chunk frame r k h e =
     ∙ ap (λ (x : List ℕ). scan longest (kept t) x) (sym (drop-drop (2 * n) from chunk))
     ∙ sym (scan-digits longest [] t (drop (2 * n) (drop from chunk)) (take n frame) r.read (omega arith))
     ∙ ap (scan longest (kept [])) (take-append-drop (2 * n) (drop from chunk))
-
--- a line of no characters
-pub open_none : (longest n : ℕ) (line : List ℕ) → n ≡ 0 → kept [] ≡ line_of longest n line
-open_none longest n line e = rw (e, le-leb 0 longest (omega arith))

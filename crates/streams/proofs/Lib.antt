@@ -1,2 +1,2 @@
 -- The laws of this crate that no function is named for.
-pub mod Table
+pub mod Numbers

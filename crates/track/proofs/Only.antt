@@ -10,10 +10,9 @@ use lib.Dec.{eqb}
 use Rattle.paper.specs.Reader as paper
 use Rattle.paper.specs.Reader.{ArrivalEffect, repeated, taken, finished}
 use Rattle.track.specs.declared.Track.{Track}
-use Rattle.track.specs.declared.Moved.{Moved}
 use Rattle.track.specs.declared.Move.{Move}
 use Rattle.track.specs.declared.Move.TheVariants.{Repeat, Dropped, Kept, Finished}
-use Rattle.track.specs.Moves.{tracked, with_piece, meant, InRange, Right}
+use Rattle.track.specs.Moves.{Moved, tracked, with_piece, meant, InRange, Right}
 use Rattle.track.proofs.RightMoves.{repeats, drops, keeps, finishes, right_repeat, right_dropped, right_kept, right_finished}
 
 -- the record that an arrival leaves is read off it, but for a repeat

@@ -4,9 +4,13 @@ use Rattle.std.specs.Prelude.{Bool, true, false, List, [], ◌∷◌, ◌++◌, 
 use Rattle.paper.specs.Reader as paper
 use Rattle.paper.specs.Reader.{ArrivalEffect, repeated, taken, finished}
 use Rattle.track.specs.declared.Track.{Track}
-use Rattle.track.specs.declared.Moved.{Moved}
 use Rattle.track.specs.declared.Move.{Move}
 use Rattle.track.specs.declared.Move.TheVariants.{Repeat, Dropped, Kept, Finished}
+
+-- a move, and the record after it
+pub record Moved : Type 0 where
+  pub track : Track
+  pub step : Move
 
 -- the paper's record: this one, and the pieces gathered so far
 abbrev pub tracked : {A : Type 0} → Track → List A → paper.Track A

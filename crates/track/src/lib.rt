@@ -15,7 +15,7 @@ pub struct Track {
 }
 
 // What an arriving piece does.
-#[derive(Drop)]
+#[derive(Clone, Copy, PartialEq, Eq)]
 pub enum Move {
     // nothing changes
     Repeat,
@@ -27,88 +27,40 @@ pub enum Move {
     Finished,
 }
 
-// A move, and the record after it.
-#[derive(Drop)]
-pub struct Moved {
-    pub track: Track,
-    pub step: Move,
-}
-
-// How far a count is ahead of the last one.
-pub fn distance(last: u16, count: u16) -> u16
-    requires { (last < 4096) × (count < 4096) }
-    ensures { (result ≡ paper.distance last count) × (result < 4096) }
-{
-    (count + 4096 - last) % 4096
-}
-
-// The place d pieces further.
-pub fn placed(pieces: u8, place: u8, d: u16) -> u8
-    requires { (0 < pieces) × (d < 4096) }
-    ensures { (result ≡ paper.placed pieces place d) × (result < pieces) }
-{
-    (((place as u16) + d) % (pieces as u16)) as u8
-}
-
-// A move with the record that it leaves.
-pub fn leaves(step: Move, last: u16, place: u8, running: bool) -> Moved
-    ensures { result ≡ record { track = record { last = last; place = place; running = running }; step = step } }
-{
-    let track = Track {
-        last,
-        place,
-        running,
-    };
-    Moved { track, step }
-}
-
-// The core, by value: a piece with its count arrives at the record of a stream whose packets have so many pieces.
-pub fn arrived(t: Track, pieces: u8, count: u16) -> Moved
-    requires { InRange t pieces count }
-    ensures { Right t pieces count result }
-{
-    let d = distance(t.last, count);
-    if d == 0 {
-        return leaves(Move::Repeat, t.last, t.place, t.running);
-    }
-    let place = placed(pieces, t.place, d);
-    if (place == 0) | ((d == 1) & t.running) {
-        if place == pieces - 1 {
-            return leaves(Move::Finished, count, place, false);
+impl Track {
+    // The core, by value: a piece with its count arrives at the record of a stream whose packets have so many pieces.
+    #[tactic(auto, unfolding(paper::specs::Reader::arrive))]
+    pub fn arrived(self, pieces: u8, count: u16) -> (Track, Move)
+        requires { InRange self pieces count }
+        ensures { Right self pieces count (record { track = result.0; step = result.1 }) }
+    {
+        let d = count.wrapping_sub(self.last) % 4096;
+        if d == 0 {
+            return (self, Move::Repeat);
         }
-        return leaves(Move::Kept, count, place, true);
+        // narrows a number that is shown small: no `From` does, and the error of `TryFrom` cannot be
+        let place = ((u16::from(self.place) + d) % u16::from(pieces)) as u8;
+        let gathers = place == 0 || (d == 1 && self.running);
+        let step = match (gathers, place == pieces - 1) {
+            (false, _) => Move::Dropped,
+            (true, false) => Move::Kept,
+            (true, true) => Move::Finished,
+        };
+        let after = Track {
+            last: count,
+            place,
+            running: step == Move::Kept,
+        };
+        (after, step)
     }
-    leaves(Move::Dropped, count, place, false)
-}
 
-// The record that an arriving piece finds and leaves updated: the core over a lent record.
-pub fn arrive(t: &mut Track, pieces: u8, count: u16) -> Move
-    requires { InRange t.old pieces count }
-    ensures { Right t.old pieces count (record { track = t.new; step = result }) }
-{
-    let m = arrived(*t, pieces, count);
-    *t = m.track;
-    m.step
-}
-
-// Lends a record that was handed over, and hands it back with the move.
-pub fn lend(mut t: Track, pieces: u8, count: u16) -> Moved
-    requires { InRange t pieces count }
-    ensures { Right t pieces count result }
-{
-    let step = arrive(&mut t, pieces, count);
-    Moved { track: t, step }
-}
-
-// The same over plain numbers: whoever calls this one needs no proof by hand.
-pub fn advance(last: u16, place: u8, running: bool, pieces: u8, count: u16) -> Moved
-    requires { InRange (record { last = last; place = place; running = running }) pieces count }
-    ensures { Right (record { last = last; place = place; running = running }) pieces count result }
-{
-    let t = Track {
-        last,
-        place,
-        running,
-    };
-    lend(t, pieces, count)
+    // The record that an arriving piece finds and leaves updated: the core over a lent record.
+    pub fn arrive(&mut self, pieces: u8, count: u16) -> Move
+        requires { InRange self.old pieces count }
+        ensures { Right self.old pieces count (record { track = self.new; step = result }) }
+    {
+        let (after, step) = self.arrived(pieces, count);
+        *self = after;
+        step
+    }
 }

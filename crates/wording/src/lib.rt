@@ -1,10 +1,13 @@
-// The text of an answer: how many bytes go with a reply, and the line of a reply and its bytes.
+// The text of an answer: how many bytes go with a reply, and the line of a reply and its bytes. A reply is a number here: it is
+// printed, whatever it is.
 #![tactic(auto)]
 
-ghost use Rattle.std.specs.Prelude.{◌≡◌, [], ◌∷◌, ◌++◌, ◌+◌, ◌*◌, ◌≤◌, ◌<◌, length, take};
+ghost use Rattle.std.specs.Prelude.{◌≡◌, [], ◌∷◌, ◌++◌, ◌+◌, ◌*◌, ◌≤◌, ◌<◌, length};
 ghost use Rattle.lines.specs.Hex.{hex_of};
 ghost use Rattle.programs.specs.Bench as Bench;
 ghost use Rattle.programs.specs.Reader as Reader;
+
+use text::Text;
 
 // How many bytes a frame that got that reply wrote.
 #[tactic(auto, unfolding(programs::specs::Bench::bytes_written))]
@@ -12,32 +15,22 @@ pub fn bytes_written(reply: u8, f: &[u8]) -> usize
     ensures upper_bound { result ≤ 126 }
     ensures value { result ≡ Bench.bytes_written reply f.now }
 {
-    if reply != 0 {
-        return 0;
+    match (reply, f) {
+        (0, [5, ..]) => 126,
+        (0, [6, ..]) => 2,
+        _ => 0,
     }
-    if f.len() == 0 {
-        return 0;
-    }
-    if f[0] == 5 {
-        return 126;
-    }
-    if f[0] == 6 {
-        return 2;
-    }
-    0
 }
 
 // Appends the line of a reply and bytes.
-pub fn put_line(reply: u8, bytes: &[u8], out: &mut [u8], used: usize) -> usize
-    requires { used + 2 * length bytes.now + 3 ≤ length out.old }
-    ensures value { result ≡ used + 2 * length bytes.now + 3 }
-    ensures out_after { take result out.new ≡ take used out.old ++ (hex_of (reply ∷ bytes.now) ++ (10 ∷ [])) }
+#[tactic(auto, unfolding(lines::specs::Hex::hex_of))]
+pub fn put_line<const N: usize>(reply: u8, bytes: &[u8], text: &mut Text<N>)
+    requires { length text.old + 2 * length bytes.now + 3 ≤ N }
+    ensures { text.new ≡ text.old ++ (hex_of (reply ∷ bytes.now) ++ (10 ∷ [])) }
 {
-    out[used] = hexdigits::digit(reply / 16);
-    out[used + 1] = hexdigits::digit(reply % 16);
-    let n = hexdigits::encode(bytes, out, used + 2);
-    out[n] = 10;
-    n + 1
+    text.push_hex(reply);
+    text.append_hex(bytes);
+    text.push(b'\n');
 }
 
 // How many bytes are handed out with that reply to a packet: the listed length of its stream, or none.
@@ -50,31 +43,32 @@ pub fn handed(reply: u8, f: &[u8]) -> usize
     if reply != 1 {
         return 0;
     }
-    let stream = (wire::get16(f, 6) % 16) as u8;
-    wire::size16(streams::listed(stream))
+    // below 16: no From narrows, and try_from has an error that cannot be here
+    let stream = (wire::get::<u16>(f, 6) % 16) as u8;
+    usize::from(streams::listed_of(stream))
 }
 
 // Appends a space and the text of bytes, or nothing where there are none.
-fn put_spaced(bytes: &[u8], out: &mut [u8], at: usize) -> usize
-    requires { at + 2 * length bytes.now + 1 ≤ length out.old }
-    ensures upper_bound { result ≤ at + 2 * length bytes.now + 1 }
-    ensures out_after { take result out.new ≡ take at out.old ++ Reader.spaced bytes.now }
+#[tactic(auto, unfolding(lines::specs::Hex::hex_of))]
+fn put_spaced<const N: usize>(bytes: &[u8], text: &mut Text<N>)
+    requires { length text.old + 2 * length bytes.now + 1 ≤ N }
+    ensures upper_bound { length text.new ≤ length text.old + 2 * length bytes.now + 1 }
+    ensures text_after { text.new ≡ text.old ++ Reader.spaced bytes.now }
 {
-    if bytes.len() == 0 {
-        return at;
+    if bytes.is_empty() {
+        return;
     }
-    out[at] = 32;
-    hexdigits::encode(bytes, out, at + 1)
+    text.push(b' ');
+    text.append_hex(bytes);
 }
 
-// Appends the line of the reader's reply and the bytes that are handed out.
-pub fn put_heard(reply: u8, bytes: &[u8], out: &mut [u8], used: usize) -> usize
-    requires { (reply < 100) × (used + 2 * length bytes.now + 4 ≤ length out.old) }
-    ensures upper_bound { result ≤ used + 2 * length bytes.now + 4 }
-    ensures out_after { take result out.new ≡ take used out.old ++ Reader.line_for reply bytes.now }
+// Appends the line of the reader's reply and the bytes that are handed out. Not one with put_line: that writes two digits and never
+// a space, this a decimal, and a space only before bytes. They share the LF.
+pub fn put_heard<const N: usize>(reply: u8, bytes: &[u8], text: &mut Text<N>)
+    requires { (reply < 100) × (length text.old + 2 * length bytes.now + 4 ≤ N) }
+    ensures { text.new ≡ text.old ++ Reader.line_for reply bytes.now }
 {
-    let at = hexdigits::decimal(reply, out, used);
-    let n = put_spaced(bytes, out, at);
-    out[n] = 10;
-    n + 1
+    text.push_decimal(reply);
+    put_spaced(bytes, text);
+    text.push(b'\n');
 }

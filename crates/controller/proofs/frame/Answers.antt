@@ -13,11 +13,6 @@ use Rattle.machine.specs.Called.{left_on, told_on, replied_on, step_of}
 use Rattle.machine.proofs.Joins.{short-stays}
 use Rattle.controller.proofs.frame.Goals as goal
 
-pub returns-then-not-fits : goal.returns-then-not-fits
-unfolding step_of
-returns-then-not-fits c =
-    rw (sym c.fits.ensures ∙ c.if-not-fits.true)
-
 pub returns-then-out-lt-PACKET_BYTES : goal.returns-then-out-lt-PACKET_BYTES
 unfolding step_of replied_on told_on left_on reply
 returns-then-out-lt-PACKET_BYTES c =
@@ -26,8 +21,3 @@ returns-then-out-lt-PACKET_BYTES c =
 pub handle-requires : goal.handle-requires
 handle-requires c =
     ((fitting_true state_bytes controller_mark c.args.s.now (sym c.fits.ensures ∙ c.if-not-fits.false)).whole, c.parse.ensures.1, c.if-out-lt-PACKET_BYTES.false)
-
-pub returns : goal.returns
-unfolding step_of
-returns c =
-    rw (sym c.fits.ensures ∙ c.if-not-fits.false, ← c.parse.ensures.0) c.handle.ensures

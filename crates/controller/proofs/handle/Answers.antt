@@ -10,31 +10,6 @@ use Rattle.machine.specs.Called.{acted_on, refused_on, left_on, told_on}
 use Rattle.machine.proofs.Joins.{quiet, housed-bytes}
 use Rattle.controller.proofs.handle.Goals as goal
 
-pub frame-requires : goal.frame-requires
-frame-requires c =
-    (c.requires.0, rw c.in-Broadcast.is at c.requires.1)
-
-pub frame-requires-in-Command : goal.frame-requires-in-Command
-frame-requires-in-Command c =
-    (c.requires.0, rw c.in-Command.is at c.requires.1)
-
-pub frame-requires-in-Tick : goal.frame-requires-in-Tick
-frame-requires-in-Tick c =
-    (c.requires.0, rw c.in-Tick.is at c.requires.1)
-
-pub frame-requires-in-Sample : goal.frame-requires-in-Sample
-frame-requires-in-Sample c =
-    (c.requires.0, rw c.in-Sample.is at c.requires.1)
-
-pub status-requires : goal.status-requires
-status-requires c =
-    (c.requires.0, rw c.in-Status.is at c.requires.1, c.requires.2)
-
-pub house-requires : goal.house-requires
-house-requires c =
-    let long : length c.args.f.now ≡ 59 = rw c.in-Analogue.is at c.requires.1 in
-    (c.requires.0, long)
-
 pub returns-in-Broadcast : goal.returns-in-Broadcast
 unfolding answer
 returns-in-Broadcast c =
@@ -54,14 +29,6 @@ pub returns-in-Sample : goal.returns-in-Sample
 unfolding answer
 returns-in-Sample c =
     rw c.in-Sample.is (quiet c.args.s.now c.args.out.now c.requires.2 _ refl _ _ c.frame-in-Sample.ensures)
-
-pub returns-in-Poll : goal.returns-in-Poll
-returns-in-Poll c =
-    rw c.in-Poll.is c.poll.ensures
-
-pub returns-in-Status : goal.returns-in-Status
-returns-in-Status c =
-    rw c.in-Status.is c.status.ensures
 
 pub returns-in-Analogue : goal.returns-in-Analogue
 unfolding answer reply told_on left_on acted_on

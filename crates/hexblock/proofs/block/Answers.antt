@@ -8,8 +8,10 @@ use Rattle.hexblock.proofs.block.Goals as goal
 
 pub loop-n-preserved : goal.loop-n-preserved
 loop-n-preserved c =
-    (omega arith, simp length-set c.loop-n.invariant.1, c.loop-n.invariant.2, block_step _ _ c.loop-n.out c.loop-n.n (omega arith) (omega arith) c.loop-n.invariant.1 c.loop-n.invariant.2 ∙ c.loop-n.invariant.3)
+    let l = c.loop-n in
+    (simp length-set l.invariant.0, block_step c.args.s.now c.in_ok-v.v l.out l.n (omega arith) (omega arith) l.invariant.0 c.in_ok-v.ensures ∙ l.invariant.1)
 
 pub returns : goal.returns
 returns c =
-    λ e. block_end _ c.loop-n.out c.loop-n.n (omega arith) (omega arith) c.loop-n.invariant.1 c.loop-n.invariant.3
+    let l = c.loop-n in
+    block_end c.args.s.now l.out l.n (omega arith) (omega arith) l.invariant.0 l.invariant.1

@@ -1,5 +1,5 @@
 -- `hexblock::values` meets its contract. The invariant: the values so far are right, and none is above the worst. Assumes nothing.
-use Prim.Native.Nat.{ℕ, ◌≤◌, ◌<◌, ◌-◌}
+use Prim.Native.Nat.{ℕ, ◌≤◌, ◌<◌}
 use mathlib.Core.Path.{◌≡◌}
 use lib.ListN.{length, get_or}
 use Rattle.lines.specs.Hex.{value_of}
@@ -7,11 +7,6 @@ use Rattle.hexblock.proofs.values.Given as goal
 
 abbrev pub invariant-loop-j : goal.invariant-loop-j
 invariant-loop-j l =
-    (l.j ≤ 32)
-    × (length l.v ≡ 32)
+    (length l.v ≡ 32)
     × ((i : ℕ) → i < l.j → get_or l.v i 0 ≡ value_of (get_or l.s i 0))
     × ((i : ℕ) → i < l.j → get_or l.v i 0 ≤ l.worst)
-
-abbrev pub decreases-loop-j : goal.decreases-loop-j
-decreases-loop-j l =
-    32 - l.j

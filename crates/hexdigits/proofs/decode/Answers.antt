@@ -1,54 +1,26 @@
 -- `hexdigits::decode` meets its contract. The invariant: the bytes written, put in front of what the rest of the text says, are what the text says.
--- The measure is the number of characters left. Assumes nothing.
-use mathlib.Core.Path.{refl, sym, ap, ◌∙◌}
+-- Assumes nothing.
+use Prim.Native.Nat.{◌/◌}
+use mathlib.Core.Path.{◌≡◌, sym, ap, ◌∙◌}
 use native.Mathlib.Omega.{arith}
-use lib.ListN.{take, length-set}
+use lib.ListN.{length, take, length-set}
 use Rattle.lines.specs.Hex.{bytes_in_front}
-use Rattle.hexdigits.proofs.HexDigits.{fronts-none, read_step, read-high, read_low, read_odd, read-end}
+use Rattle.hexdigits.proofs.HexDigits.{read_step, read_no_pair, read_ends}
 use Rattle.hexdigits.proofs.decode.Goals as goal
 
-pub loop-i-init : goal.loop-i-init
-loop-i-init c =
-    (omega arith, refl, refl, fronts-none _)
+pub returns-in_err-out-clause-out_after : goal.returns-in_err-out-clause-out_after
+returns-in_err-out-clause-out_after c =
+    let l = c.loop-n in
+    rw c.from_residual.ensures (sym (ap (bytes_in_front (take l.n l.out)) (read_no_pair c.args.s.now l.n (omega arith) c.in_err-out.ensures)) ∙ l.invariant.1)
 
-pub returns-then-h-ge16 : goal.returns-then-h-ge16
-returns-then-h-ge16 c =
-    let l = c.loop-i in
-    record {
-      result_in_bounds = omega arith;
-      out_after = sym (ap (bytes_in_front (take l.n l.out)) (read-high _ l.i _ (omega arith) c.value-h.ensures c.if-h-ge16.true)) ∙ l.invariant.3;
-    }
-
-pub returns-then-l-ge16 : goal.returns-then-l-ge16
-returns-then-l-ge16 c =
-    let l = c.loop-i in
-    record {
-      result_in_bounds = omega arith;
-      out_after = sym (ap (bytes_in_front (take l.n l.out)) (read_low _ l.i _ (omega arith) c.value-l.ensures c.if-l-ge16.true)) ∙ l.invariant.3;
-    }
-
-pub loop-i-preserved : goal.loop-i-preserved
-loop-i-preserved c =
-    let l = c.loop-i in (
-      omega arith,
-      omega arith,
-      simp length-set l.invariant.2,
-      read_step _ l.out l.i l.n _ _ (omega arith) (omega arith) c.value-h.ensures c.value-l.ensures c.if-h-ge16.false c.if-l-ge16.false
-          ∙ l.invariant.3,
-    )
-
-pub returns-then-i-s : goal.returns-then-i-s
-returns-then-i-s c =
-    let l = c.loop-i in
-    record {
-      result_in_bounds = omega arith;
-      out_after = sym (ap (bytes_in_front (take l.n l.out)) (read_odd _ l.i (omega arith) (omega arith))) ∙ l.invariant.3;
-    }
+pub loop-n-preserved : goal.loop-n-preserved
+loop-n-preserved c =
+    let l = c.loop-n in
+    (simp length-set l.invariant.0, read_step c.args.s.now l.out l.n _ (omega arith) (omega arith) c.in_ok-out.ensures ∙ l.invariant.1)
 
 pub returns : goal.returns
 returns c =
-    let l = c.loop-i in
-    record {
-      result_in_bounds = omega arith;
-      out_after = sym (read-end _ l.out l.i l.n (omega arith)) ∙ l.invariant.3;
-    }
+    let l = c.loop-n in
+    let size : l.n ≡ length c.args.s.now / 2 = omega arith in
+    let r = read_ends c.args.s.now l.out l.n c.then_some.result size (rw size c.then_some.ensures) (omega arith) in
+    record { result_in_bounds = omega (arith, r.0, l.auto.out); out_after = r.1 ∙ l.invariant.1 }

@@ -11,4 +11,4 @@ invariant-loop-n l =
 
 abbrev pub decreases-loop-n : goal.decreases-loop-n
 decreases-loop-n l =
-    l.room - l.n
+    length l.frame - l.n

@@ -1,15 +1,9 @@
 -- `shelving::fresh_records` meets its contract: at the loop's head, the records of the streams below are fresh.
 -- Assumes nothing.
 use mathlib.Core.Path.{◌≡◌}
-use Prim.Native.Nat.{◌-◌, ◌≤◌}
-use lib.ListN.{length}
 use Rattle.shelf.specs.Fresh.{fresh_on}
 use Rattle.shelving.proofs.fresh_records.Given as goal
 
 abbrev pub invariant-loop-stream : goal.invariant-loop-stream
 invariant-loop-stream l =
-    (l.stream ≤ 12) × (l.s ≡ fresh_on l.initial.s l.stream) × (length l.s ≡ length l.initial.s)
-
-abbrev pub decreases-loop-stream : goal.decreases-loop-stream
-decreases-loop-stream l =
-    12 - l.stream
+    l.s ≡ fresh_on l.initial.s l.stream

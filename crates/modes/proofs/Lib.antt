@@ -1,0 +1,3 @@
+-- The laws of this crate that no function is named for.
+pub mod Numbers
+pub mod Order

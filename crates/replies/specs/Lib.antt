@@ -1,0 +1,2 @@
+-- The numbers of replies.
+pub mod Numbers

@@ -1,8 +1,0 @@
--- `status::weight` meets its contract. Assumes nothing.
-use Rattle.paper.proofs.Labels.{bit_le}
-use borrow.Author.Rules.{rules}
-use Rattle.status.proofs.weight.Goals as goal
-
-pub returns : goal.returns
-returns c =
-    (search rules, bit_le c.args.on)

@@ -1,2 +1,0 @@
--- Laws of the lines that bench and reader write.
-pub mod Written
