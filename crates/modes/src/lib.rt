@@ -37,6 +37,7 @@ impl Mode {
     }
 }
 
+// An enum's number is its case's, which `as` gives.
 #[tactic(auto, using(crate::proofs::Numbers::place_is_number))]
 impl From<Mode> for u8 {
     ghost from_gives = { λ mode y. y ≡ number_meant mode };
