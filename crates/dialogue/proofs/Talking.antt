@@ -1,10 +1,10 @@
 -- Laws of what comes of what reads bring, one after the other. Assumes nothing.
-use Rattle.std.proofs.Common.{◌≡◌, refl, sym, ap, ◌∙◌, true, false, true≢false, Result, Ok, Err, ℕ, List, [], ◌∷◌, ◌++◌, length}
-use Rattle.std.specs.Result.{is_err}
+use Rattle.std.proofs.Common.{◌≡◌, refl, sym, ap, ◌∙◌, Bool, true, false, ◌&&◌, true≢false, Result, Ok, Err, ℕ, List, [], ◌∷◌, ◌++◌, length}
+use Rattle.std.specs.Result.{is_ok}
 use borrow.Author.Tests.{ne_eqb}
 use Rattle.lines.specs.Lines.{LineSoFar, kept, over}
 use Rattle.lines.specs.Talk.{Way, Talk, talk}
-use Rattle.lines.proofs.Talk.{talk-text, talk-append}
+use Rattle.lines.proofs.Talk.{talk-text, talk-append, last-feed}
 use Rattle.hexline.specs.Open.{count_of}
 use Rattle.programs.specs.Programs.{longest}
 use Rattle.answering.specs.Machines.{answer_to, begun}
@@ -31,8 +31,9 @@ unfolding talk
 fed-comes m l s (input i) = refl
 fed-comes m l s failed = refl
 fed-comes m (kept []) s the_end = refl
-fed-comes m (kept (c ∷ l)) s the_end = rw (ne_eqb (length (c ∷ l)) 0 (λ e. cc))
-fed-comes m over s the_end = refl
+fed-comes m (kept (c ∷ l)) s the_end =
+    rw (ne_eqb (length (c ∷ l)) 0 (λ e. cc)) (last-feed longest (answer_to m) (kept (c ∷ l)) s (λ e. cc))
+fed-comes m over s the_end = last-feed longest (answer_to m) over s (λ e. cc)
 
 -- a run so far: what its reads brought, and that the line open and the state are those that it leaves
 pub record Reached (m : Machine) (line : LineSoFar) (state : List ℕ) : Type 0 where
@@ -45,12 +46,17 @@ pub reached_none : (m : Machine) (line : LineSoFar) (state : List ℕ) → line 
 unfolding talk
 reached_none m line state l e = record { all = []; line_is = l; state_is = e }
 
+-- what brought no bytes is not read on after
+nothing : (x : Bool) → (x && false) ≡ true → ⊥
+nothing true p = true≢false (sym p)
+nothing false p = true≢false (sym p)
+
 -- a read that brought bytes, all answered
 pub reached_more : (m : Machine) (line : LineSoFar) (state : List ℕ) (line' : LineSoFar) (state' : List ℕ) (b : Brought) (r : Result ℕ ℕ) → Reached m line state
-    → Served (comes m b line state) line' state' r → is_err r ≡ false → brings b ≡ true → Reached m line' state'
-reached_more m line state line' state' (input i) (Ok said) r s e o =
+    → Served (comes m b line state) line' state' r → (is_ok r && brings b) ≡ true → Reached m line' state'
+reached_more m line state line' state' (input i) (Ok said) r s o =
     let g = goes_on (answer_to m) r.all i (begun m) state line r.line_is r.state_is in
     record { all = r.all ++ i; line_is = s.line_left ∙ g.0; state_is = s.state_left ∙ g.1 }
-reached_more m line state line' state' (input i) (Err said) r s e o = absurd (true≢false e)
-reached_more m line state line' state' the_end w r s e o = absurd (true≢false (sym o))
-reached_more m line state line' state' failed w r s e o = absurd (true≢false (sym o))
+reached_more m line state line' state' (input i) (Err said) r s o = absurd (true≢false (sym o))
+reached_more m line state line' state' the_end w r s o = absurd (nothing (is_ok w) o)
+reached_more m line state line' state' failed w r s o = absurd (nothing (is_ok w) o)

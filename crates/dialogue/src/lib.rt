@@ -4,8 +4,7 @@
 // What a read brings is taken as any bytes.
 #![tactic(auto)]
 
-ghost use Rattle.std.specs.Prelude.{◌≡◌, ◌≤◌, true, [], List, ℕ, length};
-ghost use Rattle.lines.specs.Lines.{kept};
+ghost use Rattle.std.specs.Prelude.{◌≡◌, ◌&&◌, ◌≤◌, true, is_ok, List, ℕ, length};
 ghost use Rattle.answering.specs.Machines.{begun, most_text};
 ghost use Rattle.incoming.specs.Brought.{brought, brings, count_read};
 ghost use Rattle.saying.specs.Served.{Served};
@@ -28,6 +27,13 @@ fn brings_more(got: Option<usize>) -> bool
     got.is_some_and(|n| n > 0)
 }
 
+// Whether to read on after a read and what came of it: the read brought bytes, and the output took all that there was to say.
+fn reads_on(answered: Result<usize, usize>, got: Option<usize>) -> bool
+    ensures { (chunk : List ℕ) → result ≡ (is_ok answered && brings (brought (count_read got) chunk)) }
+{
+    answered.is_ok() & brings_more(got)
+}
+
 // Answers what a read brought: `got` is its answer, and the chunk what it left there.
 fn heard<const N: usize>(
     program: Program,
@@ -44,7 +50,7 @@ fn heard<const N: usize>(
     saying::answer_all(program, &chunk[..k], desk, state, text)
 }
 
-// Serves standard input to its end, and answers whether the output took all that there was to say.
+// Serves standard input to its end, from a line of no characters on, and answers whether the output took all that there was to say.
 // A proved loop has to end, and nothing says that the input does: so its turns are counted up to a number that no run comes to.
 pub fn run<const N: usize>(
     program: Program,
@@ -54,19 +60,18 @@ pub fn run<const N: usize>(
     text: &mut Text<N>,
 ) -> bool
     requires sizes { (1 ≤ length chunk.old) × (length chunk.old ≤ 65536) × (most_text ≤ N) × (N ≤ 65536) }
-    requires fresh { (desk.old.line ≡ kept []) × (state.old ≡ begun program.machine) }
+    requires fresh { state.old ≡ begun program.machine }
     ensures { result ≡ true → Ran program.machine state.new }
 {
+    desk.line.clear();
     for _ in 0..u64::MAX {
         let got = read(program.streams.input, chunk);
-        if heard(program, got, chunk, desk, state, text).is_err() {
-            return false;
-        }
-        if !brings_more(got) {
+        let answered = heard(program, got, chunk, desk, state, text);
+        if !reads_on(answered, got) {
             if got.is_none() {
                 saying::write_all(&program.streams.errors, b"standard input cannot be read\n");
             }
-            return true;
+            return answered.is_ok();
         }
     }
     true

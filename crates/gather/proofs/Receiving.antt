@@ -34,25 +34,25 @@ use Rattle.shelf.proofs.Formed.{gathers_to, moves_to, arrives_to, arrived_formed
 -- ---- the stores of a move
 
 -- the record that the bytes hold
-abbrev found : List ℕ → ℕ → Track
+abbrev pub found : List ℕ → ℕ → Track
 found s t = record { last = last_in s t; place = place_in s t; running = runs_in s t }
 
 -- the record anew
-abbrev noted : List ℕ → ℕ → Track → List ℕ
+abbrev pub noted : List ℕ → ℕ → Track → List ℕ
 noted s t u = recorded_on s t u.last u.place (bit u.running)
 
 -- the body at its place, and the record anew
-abbrev kept : List ℕ → ℕ → List ℕ → Track → List ℕ
+abbrev pub kept : List ℕ → ℕ → List ℕ → Track → List ℕ
 kept s t x u = noted (put s (piece_at t u.place) x) t u
 
-abbrev stores : List ℕ → ℕ → List ℕ → List ℕ → Track → Move → Res
+abbrev pub stores : List ℕ → ℕ → List ℕ → List ℕ → Track → Move → Res
 stores s t x o u Repeat = res 22 o s
 stores s t x o u Dropped = res 0 o (noted s t u)
 stores s t x o u Kept = res 0 o (kept s t x u)
 stores s t x o u Finished = hands_to (kept s t x u) t o
 
 module _ (s : List ℕ) (t : ℕ) (c : carried t ≡ true) (count : ℕ) (small : count < 4096) where
-  ok : InRange (found s t) (pieces t) count
+  pub ok : InRange (found s t) (pieces t) count
   ok =
       let some = ltb-true 0 (pieces t) c in
       record { some = some; place = mod-lt (get_or s (place_at t) 0) some; last = omega arith; count = small }

@@ -84,7 +84,7 @@ pub read_no_pair : (s : List ℕ) (n : ℕ) → 2 * n + 1 < length s → ((r : R
 read_no_pair s n h e = read_two s (2 * n) h ∙ e _
 
 -- one character left
-read_odd : (s : List ℕ) (i : ℕ) → i < length s → length s ≤ i + 1 → read_hex (drop i s) ≡ faulty_text
+pub read_odd : (s : List ℕ) (i : ℕ) → i < length s → length s ≤ i + 1 → read_hex (drop i s) ≡ faulty_text
 unfolding read_hex
 read_odd s i a b =
     let k : length s ≤ suc i = omega arith in

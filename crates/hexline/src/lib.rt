@@ -4,8 +4,8 @@
 // count of one more.
 #![tactic(auto)]
 
-ghost use Rattle.std.specs.Prelude.{◌≡◌, ◌≢◌, ◌*◌, ◌≤◌, ◌<◌, IfSome, All, [], length, take, drop, get_or};
-ghost use Rattle.lines.specs.Lines.{kept, scan, frame_of_line};
+ghost use Rattle.std.specs.Prelude.{◌≡◌, ◌≢◌, ◌+◌, ◌*◌, ◌≤◌, ◌<◌, IfSome, MatchOption, All, [], length, take, drop, get_or};
+ghost use Rattle.lines.specs.Lines.{kept, over, scan, frame_of_line};
 ghost use Rattle.hexline.specs.Open.{count_of, more_by, scanned};
 
 use std::marker::Model;
@@ -20,14 +20,14 @@ pub struct OpenLine<const N: usize> {
 
 // Clauses see the line so far.
 impl<const N: usize> Model for OpenLine<N> {
-    ghost use Rattle.std.specs.Prelude.{◌+◌, ◌≤◌, ◌<◌};
+    ghost use Rattle.std.specs.Prelude.{◌+◌, ◌≤◌};
     ghost use Rattle.lines.specs.Lines.{LineSoFar, line_of};
 
     ghost Value = { LineSoFar };
 
     ghost view = { λ o. line_of N o.count o.characters };
 
-    ghost invariant = { (λ o. (o.count ≤ N + 1) × (N < 65536)) };
+    ghost invariant = { λ o. o.count ≤ N + 1 };
 }
 
 // How many characters come before the first LF, or all.
@@ -42,7 +42,6 @@ fn before_line_feed(s: &[u8]) -> usize
 impl<const N: usize> OpenLine<N> {
     // A line of no characters.
     pub fn new() -> Self
-        requires { N < 65536 }
         ensures { result ≡ kept [] }
     {
         OpenLine {
@@ -53,7 +52,8 @@ impl<const N: usize> OpenLine<N> {
 
     // How many characters there are, or N + 1 for any number above N.
     pub fn count(&self) -> usize
-        ensures { result ≡ count_of N self.now }
+        ensures value { result ≡ count_of N self.now }
+        ensures small { result ≤ N + 1 }
     {
         self.count
     }
@@ -65,8 +65,18 @@ impl<const N: usize> OpenLine<N> {
         self.count = 0;
     }
 
-    // Takes more characters.
-    fn append(&mut self, s: &[u8])
+    // The characters, unless there are too many.
+    pub fn characters(&self) -> Option<&[u8]>
+        ensures { MatchOption result (self.now ≡ over) (λ s. (self.now ≡ kept s.now) × (length s.now ≤ N)) }
+    {
+        if N < self.count {
+            return None;
+        }
+        Some(&self.characters[..self.count])
+    }
+
+    // Takes more characters, whatever they are.
+    pub fn append(&mut self, s: &[u8])
         ensures { self.new ≡ more_by N self.old s.now }
     {
         let n = self.count;
@@ -102,9 +112,9 @@ impl<const N: usize> OpenLine<N> {
         ensures upper_bound { result ≤ length frame.old }
         ensures frame_after { take result frame.new ≡ frame_of_line self.now }
     {
-        if N < self.count {
+        let Some(characters) = self.characters() else {
             return 0;
-        }
-        hexdigits::decode(&self.characters[..self.count], frame).unwrap_or(0)
+        };
+        hexdigits::decode(characters, frame).unwrap_or(0)
     }
 }

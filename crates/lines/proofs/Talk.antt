@@ -3,13 +3,9 @@
 use mathlib.Core.Path.{◌≡◌, refl, sym, ap, ◌∙◌}
 use mathlib.Core.Bool.{Bool, true, false, cond}
 use mathlib.Core.List.{List, [], ◌∷◌, ◌++◌, append_assoc, append-nil, flatten}
-use Prim.Native.Nat.{ℕ, zero, suc, ◌<◌}
-use native.Mathlib.Nat.{not-suc-le-zero}
-use native.Mathlib.Omega.{arith}
-use lib.Dec.{leb, eqb}
-use borrow.Author.Tests.{leb-true}
-use lib.ListN.{length, take}
-use Rattle.lines.specs.Lines.{LineSoFar, kept, over, more, line_of, Scan, line_ended, partly, scan, frame_of_line}
+use Prim.Native.Nat.{ℕ}
+use lib.Dec.{eqb}
+use Rattle.lines.specs.Lines.{LineSoFar, kept, over, more, Scan, line_ended, partly, scan, frame_of_line}
 use Rattle.lines.specs.Talk.{Answer, Way, Talk, talk, lastly, whole_text, spoken_in}
 
 -- what holds at both truth values holds at each
@@ -50,26 +46,17 @@ module _ (longest : ℕ) (a : Way) where
   turn_partly t l l' s rest input q e = ap (talk longest a t l' s) e ∙ ap (after t s) q ∙ sym (talk-scan t l s input)
 
   -- the end of the input: an open line that is not empty is answered
-  pub last_line : (n : ℕ) (line s : List ℕ) → length line ≡ longest → (n ≡ 0 → ⊥) → a s (frame_of_line (line_of longest n line)) ≡ lastly a (line_of longest n line) s
-  last_line n line s e h =
-      on
-      (λ (b : Bool). (leb n longest ≡ b → a s (frame_of_line (cond b (kept (take n line)) over)) ≡ lastly a (cond b (kept (take n line)) over) s))
-      (leb n longest)
-      (λ p. some n line (omega arith) (omega (arith, leb-true n longest p)))
-      (λ p. refl)
-      refl
-    where
-      some : (m : ℕ) (l : List ℕ) → 0 < m → 0 < length l → a s (frame_of_line (kept (take m l))) ≡ lastly a (kept (take m l)) s
-      some m [] x y = absurd (not-suc-le-zero y)
-      some zero (x ∷ l) y z = absurd (not-suc-le-zero y)
-      some (suc m) (x ∷ l) y z = refl
+  pub last_line : (l : LineSoFar) (s : List ℕ) → (l ≡ kept [] → ⊥) → a s (frame_of_line l) ≡ lastly a l s
+  last_line (kept []) s h = absurd (h refl)
+  last_line (kept (c ∷ l)) s h = refl
+  last_line over s h = refl
 
   -- and so it is by an LF: what comes of one is the open line's answer
-  pub last-feed : (n : ℕ) (line s : List ℕ) → length line ≡ longest → (n ≡ 0 → ⊥)
-      → talk longest a [] (line_of longest n line) s (10 ∷ [])
-      ≡ record { text = (lastly a (line_of longest n line) s).text; line = kept []; state = (lastly a (line_of longest n line) s).state }
+  pub last-feed : (l : LineSoFar) (s : List ℕ) → (l ≡ kept [] → ⊥)
+      → talk longest a [] l s (10 ∷ [])
+      ≡ record { text = (lastly a l s).text; line = kept []; state = (lastly a l s).state }
   unfolding talk
-  last-feed n line s e h = ap (λ (x : Answer). record { text = x.text; line = kept []; state = x.state }) (last_line n line s e h)
+  last-feed l s h = ap (λ (x : Answer). record { text = x.text; line = kept []; state = x.state }) (last_line l s h)
 
   -- a second piece of input goes on with what the first left
   pub talk-append : (t : List ℕ) (l : LineSoFar) (s i j : List ℕ) → talk longest a t l s (i ++ j) ≡ talk longest a (talk longest a t l s i).text (talk longest a t l s i).line (talk longest a t l s i).state j

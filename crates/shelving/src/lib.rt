@@ -20,7 +20,7 @@ use track::Track;
 
 // The record of the place of any number below 12, anew: a start goes over all twelve, used or not.
 #[tactic(auto, unfolding(shelf::specs::Received::recorded_on))]
-fn note_at(s: &mut [u8], stream: u8, t: Track)
+pub fn note_at(s: &mut [u8], stream: u8, t: Track)
     requires { (reader_bytes ≤ length s.old) × (stream < 12) }
     ensures { s.new ≡ recorded_on s.old stream t.last t.place (bit t.running) }
 {

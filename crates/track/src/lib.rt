@@ -27,6 +27,23 @@ pub enum Move {
     Finished,
 }
 
+// How far a count is ahead of the last one.
+pub fn distance(last: u16, count: u16) -> u16
+    requires { (last < 4096) × (count < 4096) }
+    ensures { (result ≡ paper.distance last count) × (result < 4096) }
+{
+    (count + 4096 - last) % 4096
+}
+
+// The place d pieces further.
+pub fn placed(pieces: u8, place: u8, d: u16) -> u8
+    requires { (0 < pieces) × (d < 4096) }
+    ensures { (result ≡ paper.placed pieces place d) × (result < pieces) }
+{
+    // narrows a number that is shown small: no `From` does, and the error of `TryFrom` cannot be
+    ((u16::from(place) + d) % u16::from(pieces)) as u8
+}
+
 impl Track {
     // The core, by value: a piece with its count arrives at the record of a stream whose packets have so many pieces.
     #[tactic(auto, unfolding(paper::specs::Reader::arrive))]
@@ -34,12 +51,11 @@ impl Track {
         requires { InRange self pieces count }
         ensures { Right self pieces count (record { track = result.0; step = result.1 }) }
     {
-        let d = count.wrapping_sub(self.last) % 4096;
+        let d = distance(self.last, count);
         if d == 0 {
             return (self, Move::Repeat);
         }
-        // narrows a number that is shown small: no `From` does, and the error of `TryFrom` cannot be
-        let place = ((u16::from(self.place) + d) % u16::from(pieces)) as u8;
+        let place = placed(pieces, self.place, d);
         let gathers = place == 0 || (d == 1 && self.running);
         let step = match (gathers, place == pieces - 1) {
             (false, _) => Move::Dropped,

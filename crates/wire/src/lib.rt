@@ -90,12 +90,15 @@ pub fn raise16(s: &mut [u8], at: usize)
     set(s, at, count.wrapping_add(1));
 }
 
-// d with all of s at an offset.
+// d with all of s at an offset. Byte by byte: of two slices that it cannot tell apart the compiler makes std's copy a call of memmove,
+// which a caller in C would have to have.
 pub fn copy_to(d: &mut [u8], at: usize, s: &[u8])
     requires { at + length s.now ≤ length d.old }
     ensures { d.new ≡ put d.old at s.now }
 {
-    d[at..at + s.len()].copy_from_slice(s);
+    for i in 0..s.len() {
+        d[at + i] = s[i];
+    }
 }
 
 // d with the n bytes of s from one offset at another.

@@ -16,5 +16,5 @@ returns g c =
     let b = brought (count_read a.got) a.chunk.now in
     let l = a.desk.now.line in
     let n = c.count.result in
-    let same = ap (λ (x : List ℕ). talk longest (answer_to a.program.machine) [] l a.state.now x) (i.ensures.chunk_after ∙ ap (λ (x : ℕ). fed x b) c.count.ensures) ∙ fed-comes a.program.machine l a.state.now b in
+    let same = ap (λ (x : List ℕ). talk longest (answer_to a.program.machine) [] l a.state.now x) (i.ensures.chunk_after ∙ ap (λ (x : ℕ). fed x b) c.count.ensures.value) ∙ fed-comes a.program.machine l a.state.now b in
     subst (λ (k : Talk). Served k w.new.desk.line w.new.state w.result) same w.ensures

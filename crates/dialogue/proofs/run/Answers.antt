@@ -6,13 +6,12 @@ use Rattle.dialogue.proofs.run.Goals as goal
 
 pub loop-init : goal.loop-init
 loop-init g c =
-    reached_none c.args.program.machine c.args.desk.now.line c.args.state.now c.requires.fresh.0 c.requires.fresh.1
+    reached_none c.args.program.machine c.clear.new.self c.args.state.now c.clear.ensures c.requires.fresh
 
 pub loop-preserved : goal.loop-preserved
 loop-preserved g c =
     let l = c.loop in
-    let g = c.heard in
+    let g = c.heard-answered in
     let b = brought (count_read c.read-got.result) c.read-got.new.chunk in
     reached_more c.args.program.machine l.desk.line l.state g.new.desk.line g.new.state b g.result l.invariant g.ensures
-    (sym c.is_err.ensures.value ∙ c.if-is_err.false)
-    (sym (c.brings_more.ensures c.read-got.new.chunk) ∙ c.if-not-brings_more.false)
+    (sym (c.reads_on.ensures c.read-got.new.chunk) ∙ c.if-not-reads_on.false)
